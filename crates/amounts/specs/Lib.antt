@@ -1,0 +1,9 @@
+pub mod Units
+pub mod Decimal
+pub mod Spelling
+pub mod Checks
+pub mod Amounts
+pub mod Rates
+pub mod Shortest
+pub mod Laws
+pub mod Worked

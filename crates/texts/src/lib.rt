@@ -1,0 +1,3 @@
+// Bytes as text: runs of one class of bytes, and decimal digits.
+pub mod digits;
+pub mod runs;
