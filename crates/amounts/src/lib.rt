@@ -1,4 +1,6 @@
 // Amounts of money, prices and rates: read, written and compared exactly.
+#![tactic(auto)]
+
 pub mod amount;
 
 // Texts that are read, as they are written again, and texts that are refused.

@@ -1,9 +1,8 @@
 -- The laws of codes.
 use Rattle.std.proofs.Common.{◌≡◌, ℕ, suc, ◌+◌, ◌-◌, Bool, true, false, cond, ◌&&◌, ltb, leb, List, [], ◌∷◌, ◌++◌, length, get_or, Some, None, Ordering, Less, Equal, Greater, sym, refl, ap, ◌∙◌, true≢false, arith}
-use Rattle.std.specs.Cmp.Lexicographic.{lexical}
 use Rattle.std.specs.Ordering.{is_eq, ordering_then, nat_cmp}
 use Rattle.std.specs.List.{prefix_len, AllByRecursion as All}
-use Rattle.std.specs.Cmp.{nat_cmp_total}
+use Rattle.std.proofs.lemmas.Cmp.{nat_list_cmp_total}
 use Rattle.std.proofs.lemmas.Bool.{and_from, and_parts, eq-eqb, eqb-true, le-leb, leb-true, lt-ltb, ltb-true}
 use Rattle.std.proofs.lemmas.Bool.Decides.{nat_tests}
 use Rattle.codes.specs.Alphabets.{in_alphabet, end_byte}
@@ -81,8 +80,8 @@ laws = record {
   no_zero = λ alphabet h. true≢false (sym (non_zero_lem alphabet 0 h));
   one_form = λ {alphabet} {least} {most} a b e. one_place most a.bytes b.bytes a.filled b.filled e;
   reads_back = λ {alphabet} {least} {most} a. reads alphabet least most (text_of a) a.rule;
-  flip = (lexical nat_cmp_total).flip;
-  transitive = (lexical nat_cmp_total).trans;
+  flip = nat_list_cmp_total.antisymm;
+  transitive = nat_list_cmp_total.trans;
   equal = λ s t. (same_from s t, λ e. ap (λ (x : List ℕ). is_eq (text_order x t)) e ∙ ap is_eq (same_text t));
   beginning = before_more;
 }

@@ -3,6 +3,9 @@ use Rattle.std.proofs.Common.{◌≡◌, ℕ, zero, suc, ◌+◌, ◌-◌, ◌�
 use Rattle.std.specs.Ordering.{ordering_then, nat_cmp}
 use Rattle.std.specs.List.{prefix_len, AllByRecursion as All}
 use Rattle.std.proofs.lemmas.Bool.Decides.{nat_tests}
+use Rattle.std.specs.Str.{bytes_eq}
+use Rattle.std.specs.Cmp.{both_ways}
+use Rattle.std.proofs.lemmas.Slice.Eq.{bytes_eq-Decides}
 use Rattle.codes.specs.Codes.{text_order}
 use Rattle.codes.specs.Rules.{non_zero, text_in, ZeroFilled}
 
@@ -59,5 +62,8 @@ order_of_places most a b p q f g =
 pub one_place : (most : ℕ) (a b : List ℕ) → ZeroFilled most a → ZeroFilled most b → text_in a ≡ text_in b → a ≡ b
 one_place most a b p q e = p ∙ ap (λ (t : List ℕ). t ++ replicate (most - length t) 0) e ∙ sym q
 
-pub same_places : (most : ℕ) (a b : List ℕ) (r : Bool) → ZeroFilled most a → ZeroFilled most b → Decides r (a ≡ b) → Decides r (text_in a ≡ text_in b)
-same_places most a b r p q d = (λ e. ap text_in (d.0 e), λ e. d.1 (one_place most a b p q e))
+pub same_places : (most : ℕ) (a b : List ℕ) → ZeroFilled most a → ZeroFilled most b → bytes_eq a b ≡ bytes_eq (text_in a) (text_in b)
+same_places most a b p q =
+    let whole : Decides (bytes_eq a b) (a ≡ b) = bytes_eq-Decides a b in
+    let texts : Decides (bytes_eq (text_in a) (text_in b)) (text_in a ≡ text_in b) = bytes_eq-Decides (text_in a) (text_in b) in
+    both_ways _ _ (λ t. texts.1 (ap text_in (whole.0 t))) (λ t. whole.1 (one_place most a b p q (texts.0 t)))

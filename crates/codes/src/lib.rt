@@ -1,4 +1,6 @@
 // Coded texts: values that keep their rule from the moment they are read.
+#![tactic(auto)]
+
 pub mod code;
 pub mod host;
 

@@ -1,4 +1,6 @@
 // One-letter fields and the other counterparty: values that keep their rule from the moment they are read.
+#![tactic(auto)]
+
 pub mod field;
 pub mod letter;
 pub mod party;

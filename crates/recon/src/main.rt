@@ -1,4 +1,6 @@
 // recon: answers the calls of a journal, one line after the other.
+#![tactic(auto)]
+
 mod answer;
 mod answers;
 mod compare;
@@ -7,21 +9,19 @@ mod run;
 #[cfg(test)]
 mod tests;
 
-use anyhow::anyhow;
 use run::Run;
 use std::io::Read;
+use std::process::ExitCode;
 use std::{env, fs};
 
 // Ends with status 1, silently where the answers have told why: some line was no call, or a file could not be read.
-fn main(rt: HostRuntime) -> anyhow::Result<()> {
+fn main(rt: HostRuntime) -> anyhow::Result<ExitCode> {
     let mut run = Run::new();
-    if let Err(error) = run_all(&rt, &mut run) {
-        return Err(error);
-    }
+    run_all(&rt, &mut run)?;
     if run.is_clean() {
-        Ok(())
+        Ok(ExitCode::SUCCESS)
     } else {
-        Err(anyhow!("not every line could be run"))
+        Ok(ExitCode::FAILURE)
     }
 }
 

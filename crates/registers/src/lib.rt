@@ -1,4 +1,6 @@
 // The registers that a host lends to a book: the parties and the countries that reports may name.
+#![tactic(auto)]
+
 ghost use Rattle.std.specs.Prelude.{◌≡◌, Decides, MatchResult};
 ghost use Rattle.codes.specs.Codes.{text_of};
 ghost use Rattle.refusals.specs.declared.refusal.Refusal.TheVariants.{RegisterDisordered};

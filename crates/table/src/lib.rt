@@ -1,4 +1,6 @@
 // One ordered table for rows of every kind that has a key.
+#![tactic(auto)]
+
 pub mod closing;
 pub mod container;
 pub mod insertion;

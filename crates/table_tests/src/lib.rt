@@ -1,4 +1,6 @@
 // The ordered table at work: rows of a sample kind, parties and countries.
+#![tactic(auto)]
+
 pub mod sample;
 pub mod uses;
 

@@ -9,6 +9,6 @@ pub fn as_str(bytes: &[u8]) -> &str
     match std::str::from_utf8(bytes) {
         Ok(text) => text,
         // ASCII is UTF-8
-        Err(_) => unreachable(),
+        Err(_) => unreachable!(),
     }
 }

@@ -1,3 +1,5 @@
 // Timestamps: read, written and compared.
+#![tactic(auto)]
+
 pub mod laws;
 pub mod timestamp;

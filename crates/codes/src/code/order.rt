@@ -1,11 +1,12 @@
 // Codes compared by their texts. The places are compared as they stand: the zeros behind a text sort below every byte
 // of a text, so a beginning comes before its continuation.
-ghost use Rattle.std.specs.Prelude.{◌≡◌, ◌≤◌, length, Decides};
+ghost use Rattle.std.specs.Prelude.{◌≡◌, ◌≤◌, length};
 ghost use Rattle.codes.specs.Codes.{text_of, text_order};
 ghost use Rattle.codes.specs.Rules.{text_in, ZeroFilled};
 ghost use Rattle.std.specs.Cmp.Rules.{comparing};
-ghost use Rattle.std.proofs.Common.{rules, arith};
-ghost use Rattle.std.specs.Cmp as Keys;
+ghost use Rattle.std.specs.Ordering.{on};
+ghost use Rattle.std.specs.Str.{bytes_eq};
+ghost use Rattle.std.proofs.Common.{rules};
 
 use super::Code;
 use std::cmp::Ordering;
@@ -23,7 +24,7 @@ fn order_of_places<const MOST: usize>(a: &[u8; MOST], b: &[u8; MOST]) -> Orderin
 fn same_places<const MOST: usize>(a: &[u8; MOST], b: &[u8; MOST]) -> bool
     requires first { ZeroFilled MOST a.now }
     requires second { ZeroFilled MOST b.now }
-    ensures { Decides result (text_in a.now ≡ text_in b.now) }
+    ensures { result ≡ bytes_eq (text_in a.now) (text_in b.now) }
 {
     *a == *b
 }
@@ -37,12 +38,12 @@ impl<const ALPHABET: u8, const LEAST: usize, const MOST: usize> Code<ALPHABET, L
     }
 }
 
-impl<const ALPHABET: u8, const LEAST: usize, const MOST: usize> PartialEq<
-    Code<ALPHABET, LEAST, MOST>,
-> for Code<ALPHABET, LEAST, MOST> {
-    ghost equals = { λ a b r. Decides r (text_of a ≡ text_of b) };
+impl<const ALPHABET: u8, const LEAST: usize, const MOST: usize> PartialEq
+    for Code<ALPHABET, LEAST, MOST> {
+    // one text
+    ghost eq = { on text_of bytes_eq };
 
-    ghost laws = { Keys.partial_equiv_from_equiv (first_of (Prim.search (comparing, rules), Prim.grind (arith, Self.row.coded.inj))) };
+    ghost laws = { Prim.search (comparing, rules) };
 
     fn eq(&self, other: &Code<ALPHABET, LEAST, MOST>) -> bool {
         same_places(&self.bytes, &other.bytes)
@@ -50,5 +51,5 @@ impl<const ALPHABET: u8, const LEAST: usize, const MOST: usize> PartialEq<
 }
 
 impl<const ALPHABET: u8, const LEAST: usize, const MOST: usize> Eq for Code<ALPHABET, LEAST, MOST> {
-    ghost laws = { first_of (Prim.search (comparing, rules), Prim.grind (arith, Self.row.coded.inj)) };
+    ghost laws = { Prim.search (comparing, rules) };
 }

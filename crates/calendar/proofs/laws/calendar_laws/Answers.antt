@@ -1,5 +1,5 @@
 use Rattle.std.proofs.Common.{◌≡◌, ℕ, ◌<◌, Less, Equal, sym, arith}
-use Rattle.std.specs.Cmp.{nat_cmp_total}
+use Rattle.std.specs.Cmp.{nat_cmp_is, nat_cmp_total}
 use Rattle.std.proofs.lemmas.Bool.Decides.{nat_tests}
 use Rattle.calendar.specs.Gregorian.{day_order}
 use Rattle.calendar.proofs.Civil.{civil_back, civil_of, date_names, date_read, one_text, text_names}
@@ -7,10 +7,10 @@ use Rattle.calendar.proofs.Parts.{century_days, number_below}
 use Rattle.calendar.proofs.laws.calendar_laws.Goals as goal
 
 less : (a b : ℕ) → (day_order a b ≡ Less → a < b) × (a < b → day_order a b ≡ Less)
-less a b = (λ e. grind (arith, nat_tests), λ h. sym (nat_cmp_total.says a b Less h))
+less a b = (λ e. grind (arith, nat_tests), λ h. sym (nat_cmp_is a b Less h))
 
 equal : (a b : ℕ) → (day_order a b ≡ Equal → a ≡ b) × (a ≡ b → day_order a b ≡ Equal)
-equal a b = (λ e. grind (arith, nat_tests), λ h. sym (nat_cmp_total.says a b Equal h))
+equal a b = (λ e. grind (arith, nat_tests), λ h. sym (nat_cmp_is a b Equal h))
 
 pub returns : goal.returns
 returns c =

@@ -9,4 +9,4 @@ loop-rest-preserved c =
     c.loop-rest.invariant
     ∙ ap (behind items) c.in-Some.ensures.0
     ∙ behind_one items c.in-Some.byte (decoded c.in-Some.after.now)
-    ∙ ap (λ (xs : List ℕ). behind xs (decoded c.in-Some.after.now)) (sym c.in-ok-push.ensures.items)
+    ∙ ap (λ (xs : List ℕ). behind xs (decoded c.in-Some.after.now)) (sym c.in_ok-push.ensures.items)

@@ -6,7 +6,7 @@ use Rattle.journal.proofs.escapes.escape.Goals as goal
 
 pub loop-byte-preserved : goal.loop-byte-preserved
 loop-byte-preserved c =
-    c.in-ok-push-escaped.ensures
+    c.in_ok-push_escaped.ensures
     ∙ ap (λ (xs : List ℕ). xs ++ escaped_byte (get_or c.args.bytes.now c.loop-byte.byte-index 0)) c.loop-byte.invariant
     ∙ sym (escaped_more c.args.bytes.now c.loop-byte.byte-index 0 c.loop-byte-test.true)
 

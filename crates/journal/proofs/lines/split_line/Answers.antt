@@ -14,12 +14,12 @@ returns c =
     let text : List ℕ = c.args.text.now in
     let n : ℕ = prefix_len (of_kind InLine) text in
     record {
-      line = c.split-at.ensures.front ∙ ap (λ (k : ℕ). take k text) c.run-len.ensures.value;
+      line = c.split_at.ensures.front ∙ ap (λ (k : ℕ). take k text) c.run_len.ensures.value;
       rest =
-          c.split-at-2.ensures.back
-          ∙ ap (λ (k : ℕ). drop k c.split-at.result.1.now) c.min.ensures
-          ∙ drop_first c.split-at.result.1.now
-          ∙ ap (drop 1) (c.split-at.ensures.back ∙ ap (λ (k : ℕ). drop k text) c.run-len.ensures.value)
+          c.split_at-2.ensures.back
+          ∙ ap (λ (k : ℕ). drop k c.split_at.result.1.now) c.min.ensures
+          ∙ drop_first c.split_at.result.1.now
+          ∙ ap (drop 1) (c.split_at.ensures.back ∙ ap (λ (k : ℕ). drop k text) c.run_len.ensures.value)
           ∙ drop-drop 1 n text;
       shorter = λ h. omega arith;
     }

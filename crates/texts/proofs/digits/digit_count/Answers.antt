@@ -5,8 +5,8 @@ use Rattle.texts.proofs.Padded.{below_width, width_le}
 use Rattle.texts.proofs.digits.digit_count.Goals as goal
 
 -- a number below 2^128 has at most 39 digits
-pub overflow-add-count : goal.overflow-add-count
-overflow-add-count c =
+pub overflow_add-count : goal.overflow_add-count
+overflow_add-count c =
     omega (
       arith,
       c.loop-rest.invariant,

@@ -8,14 +8,14 @@ use Rattle.texts.proofs.Powers.{ten_le, ten_more}
 use Rattle.texts.proofs.Decimal.{digit_range, digit_value_is}
 use Rattle.texts.proofs.digits.number.Goals as goal
 
-pub overflow-mul-n : goal.overflow-mul-n
-overflow-mul-n c = omega (arith, c.loop-d.invariant.1, ten_le c.loop-d.d-index 20 (omega arith))
+pub overflow_mul-n : goal.overflow_mul-n
+overflow_mul-n c = omega (arith, c.loop-d.invariant.1, ten_le c.loop-d.d-index 20 (omega arith))
 
-pub overflow-sub-n : goal.overflow-sub-n
-overflow-sub-n c = (digit_range _ (All-get_or (λ b. is_ascii_digit b ≡ true) c.args.digits.now c.loop-d.d-index 0 (omega arith) c.requires.all)).0
+pub overflow_sub-n : goal.overflow_sub-n
+overflow_sub-n c = (digit_range _ (All-get_or (λ b. is_ascii_digit b ≡ true) c.args.digits.now c.loop-d.d-index 0 (omega arith) c.requires.all)).0
 
-pub overflow-add-n : goal.overflow-add-n
-overflow-add-n c =
+pub overflow_add-n : goal.overflow_add-n
+overflow_add-n c =
     let d : is_ascii_digit (get_or c.args.digits.now c.loop-d.d-index 0) ≡ true = All-get_or (λ b. is_ascii_digit b ≡ true) c.args.digits.now c.loop-d.d-index 0 (omega arith) c.requires.all in
     omega (arith, c.loop-d.invariant.1, ten_le c.loop-d.d-index 20 (omega arith), digit_range (get_or c.args.digits.now c.loop-d.d-index 0) d)
 

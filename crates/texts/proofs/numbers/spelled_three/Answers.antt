@@ -21,36 +21,36 @@ returns-then-text-digits c =
     ] in
     record { value = e; bound = tt }
 
-pub returns-in-err-first : goal.returns-in-err-first
-returns-in-err-first c =
+pub returns-in_err-first : goal.returns-in_err-first
+returns-in_err-first c =
     record {
-      value = c.from-residual.ensures ∙ no_first c.args.digits c.args.mark _ c.args.text.now (omega arith) c.in-err-first.ensures.value;
-      bound = none_small c.from-residual.result c.from-residual.ensures;
+      value = c.from_residual.ensures ∙ no_first c.args.digits c.args.mark _ c.args.text.now (omega arith) c.in_err-first.ensures.value;
+      bound = none_small c.from_residual.result c.from_residual.ensures;
     }
 
-pub returns-in-err-second : goal.returns-in-err-second
-returns-in-err-second c =
+pub returns-in_err-second : goal.returns-in_err-second
+returns-in_err-second c =
     record {
       value =
-          c.from-residual-in-err-second.ensures
-          ∙ no_second c.args.digits c.args.mark _ c.args.text.now (omega arith) c.in-err-second.ensures.value;
-      bound = none_small c.from-residual-in-err-second.result c.from-residual-in-err-second.ensures;
+          c.from_residual-in_err-second.ensures
+          ∙ no_second c.args.digits c.args.mark _ c.args.text.now (omega arith) c.in_err-second.ensures.value;
+      bound = none_small c.from_residual-in_err-second.result c.from_residual-in_err-second.ensures;
     }
 
-pub returns-in-err-third : goal.returns-in-err-third
-returns-in-err-third c =
+pub returns-in_err-third : goal.returns-in_err-third
+returns-in_err-third c =
     record {
       value =
-          c.from-residual-in-err-third.ensures
-          ∙ no_third c.args.digits c.args.mark _ c.args.text.now (omega arith) c.in-err-third.ensures.value;
-      bound = none_small c.from-residual-in-err-third.result c.from-residual-in-err-third.ensures;
+          c.from_residual-in_err-third.ensures
+          ∙ no_third c.args.digits c.args.mark _ c.args.text.now (omega arith) c.in_err-third.ensures.value;
+      bound = none_small c.from_residual-in_err-third.result c.from_residual-in_err-third.ensures;
     }
 
 pub returns : goal.returns
 returns c =
     record {
       value =
-          three_yes c.args.digits c.args.mark _ _ _ c.in-ok-first.first c.in-ok-second.second c.in-ok-third.third c.args.text.now
-          (omega arith) (omega arith) (omega arith) c.if-text-digits.false c.if-text-digits-2.false c.if-text-digits-3.false c.in-ok-first.ensures.value c.in-ok-second.ensures.value c.in-ok-third.ensures.value;
+          three_yes c.args.digits c.args.mark _ _ _ c.in_ok-first.first c.in_ok-second.second c.in_ok-third.third c.args.text.now
+          (omega arith) (omega arith) (omega arith) c.if-text-digits.false c.if-text-digits-2.false c.if-text-digits-3.false c.in_ok-first.ensures.value c.in_ok-second.ensures.value c.in_ok-third.ensures.value;
       bound = search rules;
     }

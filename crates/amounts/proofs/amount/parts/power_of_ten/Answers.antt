@@ -2,8 +2,8 @@ use Rattle.std.proofs.Common.{◌≡◌, ℕ, ◌*◌, ◌^◌, sym, ap, ◌∙�
 use Rattle.texts.proofs.Powers.{ten_le, ten_more, ten_pos}
 use Rattle.amounts.proofs.amount.parts.power_of_ten.Goals as goal
 
-pub overflow-mul-power : goal.overflow-mul-power
-overflow-mul-power c = omega (arith, c.loop-i.invariant, ten_le c.loop-i.i 20 (omega arith))
+pub overflow_mul-power : goal.overflow_mul-power
+overflow_mul-power c = omega (arith, c.loop-i.invariant, ten_le c.loop-i.i 20 (omega arith))
 
 pub loop-i-preserved : goal.loop-i-preserved
 loop-i-preserved c = ap (λ (x : ℕ). x * 10) c.loop-i.invariant ∙ sym (ten_more c.loop-i.i)

@@ -8,8 +8,8 @@ use Rattle.texts.proofs.Decimal.{run_all}
 use Rattle.amounts.proofs.Spelling.{empty_fraction}
 use Rattle.amounts.proofs.amount.read.fraction_digits.Goals as goal
 
-pub returns-then-is-empty : goal.returns-then-is-empty
-returns-then-is-empty c = empty_fraction c.args.tail.now (eqb-true _ _ (sym c.if-is-empty.ensures))
+pub returns-then-is_empty : goal.returns-then-is_empty
+returns-then-is_empty c = empty_fraction c.args.tail.now (eqb-true _ _ (sym c.if-is_empty.ensures))
 
 pub returns-then-tail-ne46 : goal.returns-then-tail-ne46
 returns-then-tail-ne46 c =

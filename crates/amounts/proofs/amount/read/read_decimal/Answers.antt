@@ -13,9 +13,9 @@ at_most_20 : (limit : DigitLimit) → digits_allowed limit ≤ 20
 at_most_20 Ten = omega arith
 at_most_20 Twenty = omega arith
 
-pub returns-in-err-digits : goal.returns-in-err-digits
-returns-in-err-digits c =
-    let v : option_map worth (result_ok c.from-residual.result) ≡ amount_of (digits_allowed c.args.most) c.args.text.now = search rules in
+pub returns-in_err-digits : goal.returns-in_err-digits
+returns-in_err-digits c =
+    let v : option_map worth (result_ok c.from_residual.result) ≡ amount_of (digits_allowed c.args.most) c.args.text.now = search rules in
     record {
       value = v;
       plain = subst (Reads (digits_allowed c.args.most) c.args.text.now) (sym v) (reads (digits_allowed c.args.most) (at_most_20 c.args.most) c.args.text.now);
@@ -24,7 +24,7 @@ returns-in-err-digits c =
 
 pub returns : goal.returns
 returns c =
-    let v : Some (worth c.with-sign.result) ≡ amount_of (digits_allowed c.args.most) c.args.text.now = search rules in
+    let v : Some (worth c.with_sign.result) ≡ amount_of (digits_allowed c.args.most) c.args.text.now = search rules in
     record {
       value = v;
       plain = subst (Reads (digits_allowed c.args.most) c.args.text.now) (sym v) (reads (digits_allowed c.args.most) (at_most_20 c.args.most) c.args.text.now);

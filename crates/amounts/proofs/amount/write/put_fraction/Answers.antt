@@ -10,8 +10,8 @@ use Rattle.amounts.proofs.amount.write.put_fraction.Goals as goal
 pub bounds-out-at : goal.bounds-out-at
 bounds-out-at c = omega (arith, dot_length c.args.places c.args.digits c.if-places-gt0.true)
 
-pub slice-bounds-write-digits-end : goal.slice-bounds-write-digits-end
-slice-bounds-write-digits-end c = omega (arith, dot_length c.args.places c.args.digits c.if-places-gt0.true, length-set c.args.out.now c.args.at 46)
+pub slice_bounds-write_digits-end : goal.slice_bounds-write_digits-end
+slice_bounds-write_digits-end c = omega (arith, dot_length c.args.places c.args.digits c.if-places-gt0.true, length-set c.args.out.now c.args.at 46)
 
 pub returns-then-places-gt0 : goal.returns-then-places-gt0
 returns-then-places-gt0 c =
@@ -21,7 +21,7 @@ returns-then-places-gt0 c =
     let xs : List ℕ = c.args.out.now in
     let l = dot_length p n c.if-places-gt0.true in
     let k : at + 1 + p - (at + 1) ≡ p = omega arith in
-    placed_digits (at + 1) (at + 1 + p) n c.write-digits.new.out (set xs at 46) (omega arith) (omega (arith, length-set xs at 46)) c.write-digits.ensures.text
+    placed_digits (at + 1) (at + 1 + p) n c.write_digits.new.out (set xs at 46) (omega arith) (omega (arith, length-set xs at 46)) c.write_digits.ensures.text
     ∙ ap (λ (x : ℕ). placed (at + 1) (padded x n) (set xs at 46)) k
     ∙ ap (placed (at + 1) (padded p n)) (placed-byte at 46 xs (omega arith))
     ∙ placed-behind at (at + 1) (46 ∷ []) (padded p n) xs (omega arith) refl

@@ -33,40 +33,40 @@ three a xs ys zs us sign count whole room es ec ew e1 e2 e3 =
 room : (a : Amount) (sign count whole len : ℕ) → length (shortest a) ≤ len → sign ≡ length (sign_text a.negative) → count ≡ width whole → whole ≡ whole_of a → sign + (count + length (dot_text (padded a.places a.digits))) ≤ len
 room a sign count whole len h es ec ew = omega (arith, length-shortest a, ap width ew)
 
-pub put-sign-requires : goal.put-sign-requires
-put-sign-requires c = omega (arith, length-shortest c.args.a.now)
+pub put_sign-requires : goal.put_sign-requires
+put_sign-requires c = omega (arith, length-shortest c.args.a.now)
 
-pub slice-bounds-write-digits-end : goal.slice-bounds-write-digits-end
-slice-bounds-write-digits-end c =
-    omega (arith, room c.args.a.now c.sign-len-sign.result c.digit-count-count.result c.whole-part-whole.result (length c.args.out.now) c.requires c.sign-len-sign.ensures.value c.digit-count-count.ensures.value c.whole-part-whole.ensures)
+pub slice_bounds-write_digits-end : goal.slice_bounds-write_digits-end
+slice_bounds-write_digits-end c =
+    omega (arith, room c.args.a.now c.sign_len-sign.result c.digit_count-count.result c.whole_part-whole.result (length c.args.out.now) c.requires c.sign_len-sign.ensures.value c.digit_count-count.ensures.value c.whole_part-whole.ensures)
 
-pub overflow-add-sign : goal.overflow-add-sign
-overflow-add-sign c =
-    omega (arith, room c.args.a.now c.sign-len-sign.result c.digit-count-count.result c.whole-part-whole.result (length c.args.out.now) c.requires c.sign-len-sign.ensures.value c.digit-count-count.ensures.value c.whole-part-whole.ensures)
+pub overflow_add-sign : goal.overflow_add-sign
+overflow_add-sign c =
+    omega (arith, room c.args.a.now c.sign_len-sign.result c.digit_count-count.result c.whole_part-whole.result (length c.args.out.now) c.requires c.sign_len-sign.ensures.value c.digit_count-count.ensures.value c.whole_part-whole.ensures)
 
-pub overflow-add-sign-2 : goal.overflow-add-sign-2
-overflow-add-sign-2 c =
-    omega (arith, room c.args.a.now c.sign-len-sign.result c.digit-count-count.result c.whole-part-whole.result (length c.args.out.now) c.requires c.sign-len-sign.ensures.value c.digit-count-count.ensures.value c.whole-part-whole.ensures)
+pub overflow_add-sign-2 : goal.overflow_add-sign-2
+overflow_add-sign-2 c =
+    omega (arith, room c.args.a.now c.sign_len-sign.result c.digit_count-count.result c.whole_part-whole.result (length c.args.out.now) c.requires c.sign_len-sign.ensures.value c.digit_count-count.ensures.value c.whole_part-whole.ensures)
 
-pub put-fraction-requires : goal.put-fraction-requires
-put-fraction-requires c =
-    omega (arith, room c.args.a.now c.sign-len-sign.result c.digit-count-count.result c.whole-part-whole.result (length c.args.out.now) c.requires c.sign-len-sign.ensures.value c.digit-count-count.ensures.value c.whole-part-whole.ensures)
+pub put_fraction-requires : goal.put_fraction-requires
+put_fraction-requires c =
+    omega (arith, room c.args.a.now c.sign_len-sign.result c.digit_count-count.result c.whole_part-whole.result (length c.args.out.now) c.requires c.sign_len-sign.ensures.value c.digit_count-count.ensures.value c.whole_part-whole.ensures)
 
 pub returns : goal.returns
 returns c =
-    let sign : ℕ = c.sign-len-sign.result in
-    let count : ℕ = c.digit-count-count.result in
-    let whole : ℕ = c.whole-part-whole.result in
-    let signed : List ℕ = c.put-sign.new.out in
-    let digits : List ℕ = c.write-digits.new.out in
+    let sign : ℕ = c.sign_len-sign.result in
+    let count : ℕ = c.digit_count-count.result in
+    let whole : ℕ = c.whole_part-whole.result in
+    let signed : List ℕ = c.put_sign.new.out in
+    let digits : List ℕ = c.write_digits.new.out in
     let k : sign + count - sign ≡ count = omega arith in
-    let h = room c.args.a.now sign count whole (length c.args.out.now) c.requires c.sign-len-sign.ensures.value c.digit-count-count.ensures.value c.whole-part-whole.ensures in
+    let h = room c.args.a.now sign count whole (length c.args.out.now) c.requires c.sign_len-sign.ensures.value c.digit_count-count.ensures.value c.whole_part-whole.ensures in
     let middle : put_mid sign (sign + count - sign) signed digits ≡ placed sign (padded count whole) signed =
-    placed_digits sign (sign + count) whole digits signed (omega arith) (omega (arith, h)) c.write-digits.ensures.text
+    placed_digits sign (sign + count) whole digits signed (omega arith) (omega (arith, h)) c.write_digits.ensures.text
     ∙ ap (λ (n : ℕ). placed sign (padded n whole) signed) k in
-    let all : c.put-fraction.new.out ≡ shortest c.args.a.now ++ drop (length (shortest c.args.a.now)) c.args.out.now =
-    three c.args.a.now c.args.out.now signed (put_mid sign (sign + count - sign) signed digits) c.put-fraction.new.out sign count whole c.requires
-    c.sign-len-sign.ensures.value (c.digit-count-count.ensures.value ∙ ap width c.whole-part-whole.ensures) c.whole-part-whole.ensures c.put-sign.ensures middle c.put-fraction.ensures in
+    let all : c.put_fraction.new.out ≡ shortest c.args.a.now ++ drop (length (shortest c.args.a.now)) c.args.out.now =
+    three c.args.a.now c.args.out.now signed (put_mid sign (sign + count - sign) signed digits) c.put_fraction.new.out sign count whole c.requires
+    c.sign_len-sign.ensures.value (c.digit_count-count.ensures.value ∙ ap width c.whole_part-whole.ensures) c.whole_part-whole.ensures c.put_sign.ensures middle c.put_fraction.ensures in
     record {
       all = all;
       front =

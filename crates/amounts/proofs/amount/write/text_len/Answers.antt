@@ -4,21 +4,21 @@ use Rattle.amounts.specs.Shortest.{shortest}
 use Rattle.amounts.proofs.Shortest.{length-shortest, at_most_22, reads_back, none_shorter}
 use Rattle.amounts.proofs.amount.write.text_len.Goals as goal
 
-pub overflow-add-result : goal.overflow-add-result
-overflow-add-result c =
+pub overflow_add-result : goal.overflow_add-result
+overflow_add-result c =
     omega
-    (arith, c.digit-count.ensures.value, ap width c.whole-part.ensures, length-shortest c.args.a.now, at_most_22 c.args.a.now)
+    (arith, c.digit_count.ensures.value, ap width c.whole_part.ensures, length-shortest c.args.a.now, at_most_22 c.args.a.now)
 
-pub overflow-add-result-2 : goal.overflow-add-result-2
-overflow-add-result-2 c =
+pub overflow_add-result-2 : goal.overflow_add-result-2
+overflow_add-result-2 c =
     omega
-    (arith, c.digit-count.ensures.value, ap width c.whole-part.ensures, c.fraction-len.ensures.value c.args.a.now.digits, length-shortest c.args.a.now, at_most_22 c.args.a.now)
+    (arith, c.digit_count.ensures.value, ap width c.whole_part.ensures, c.fraction_len.ensures.value c.args.a.now.digits, length-shortest c.args.a.now, at_most_22 c.args.a.now)
 
 pub returns : goal.returns
 returns c =
-    let e : c.sign-len.result + c.digit-count.result + c.fraction-len.result ≡ length (shortest c.args.a.now) =
+    let e : c.sign_len.result + c.digit_count.result + c.fraction_len.result ≡ length (shortest c.args.a.now) =
     omega
-    (arith, c.digit-count.ensures.value, ap width c.whole-part.ensures, c.fraction-len.ensures.value c.args.a.now.digits, length-shortest c.args.a.now) in
+    (arith, c.digit_count.ensures.value, ap width c.whole_part.ensures, c.fraction_len.ensures.value c.args.a.now.digits, length-shortest c.args.a.now) in
     record {
       value = e;
       bound = omega (arith, e, at_most_22 c.args.a.now);

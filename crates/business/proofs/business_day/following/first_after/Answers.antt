@@ -7,11 +7,11 @@ use Rattle.business.proofs.business_day.following.first_after.Goals as goal
 
 pub loop-next-preserved : goal.loop-next-preserved
 loop-next-preserved c =
-    (step_closed (number c.loop-next.day) (number c.in-Some.next) c.in-Some.ensures c.in-default-new.ensures).0 ∙ c.loop-next.invariant
+    (step_closed (number c.loop-next.day) (number c.in-Some.next) c.in-Some.ensures c.in_default-new.ensures).0 ∙ c.loop-next.invariant
 
 pub loop-next-smaller : goal.loop-next-smaller
 loop-next-smaller c =
-    let s = step_closed (number c.loop-next.day) (number c.in-Some.next) c.in-Some.ensures c.in-default-new.ensures in
+    let s = step_closed (number c.loop-next.day) (number c.in-Some.next) c.in-Some.ensures c.in_default-new.ensures in
     omega (arith, s.1, s.2)
 
 plain : (n : ℕ) (o : Option ℕ) → o ≡ next_business n → FirstAfter n (next_business n) → FirstAfter n o
@@ -25,5 +25,5 @@ returns-in-Some-new c =
 
 pub returns : goal.returns
 returns c =
-    let e : None ≡ next_business (number c.args.date) = step_end (number c.loop-next.day) c.in-default.ensures ∙ c.loop-next.invariant in
+    let e : None ≡ next_business (number c.args.date) = step_end (number c.loop-next.day) c.in_default.ensures ∙ c.loop-next.invariant in
     record { value = e; plain = plain (number c.args.date) None e (next_first (number c.args.date) c.args.date.within) }

@@ -4,17 +4,17 @@ use Rattle.business.specs.BusinessDays.{day_no}
 use Rattle.business.specs.TargetDays.{next_of}
 use Rattle.business.proofs.business_day.following.second_of.Goals as goal
 
-pub returns-in-err-first : goal.returns-in-err-first
-returns-in-err-first c =
-    let gone : option_map day_no c.from-residual.result ≡ None = ap (option_map day_no) c.from-residual.ensures in
+pub returns-in_err-first : goal.returns-in_err-first
+returns-in_err-first c =
+    let gone : option_map day_no c.from_residual.result ≡ None = ap (option_map day_no) c.from_residual.ensures in
     record {
-      value = gone ∙ ap next_of c.in-err-first.ensures.value;
-      plain = (None, c.in-err-first.ensures.plain, gone);
+      value = gone ∙ ap next_of c.in_err-first.ensures.value;
+      plain = (None, c.in_err-first.ensures.plain, gone);
     }
 
 pub returns : goal.returns
 returns c =
     record {
-      value = c.first-after-2.ensures.value ∙ ap next_of c.in-ok-first.ensures.value;
-      plain = (Some (day_no c.in-ok-first.first), c.in-ok-first.ensures.plain, c.first-after-2.ensures.plain);
+      value = c.first_after-2.ensures.value ∙ ap next_of c.in_ok-first.ensures.value;
+      plain = (Some (day_no c.in_ok-first.first), c.in_ok-first.ensures.plain, c.first_after-2.ensures.plain);
     }

@@ -2,13 +2,13 @@ use Rattle.std.proofs.Common.{rules}
 use Rattle.business.specs.TargetDays.{closed}
 use Rattle.business.proofs.business_day.open_days.is_closed.Goals as goal
 
-pub returns-then-is-weekend : goal.returns-then-is-weekend
+pub returns-then-is_weekend : goal.returns-then-is_weekend
 unfolding closed
-returns-then-is-weekend c = search rules
+returns-then-is_weekend c = search rules
 
-pub returns-then-is-fixed-holiday : goal.returns-then-is-fixed-holiday
+pub returns-then-is_fixed_holiday : goal.returns-then-is_fixed_holiday
 unfolding closed
-returns-then-is-fixed-holiday c = search rules
+returns-then-is_fixed_holiday c = search rules
 
 pub returns : goal.returns
 unfolding closed

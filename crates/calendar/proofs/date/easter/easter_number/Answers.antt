@@ -6,6 +6,6 @@ pub returns : goal.returns
 returns c =
     let e = rule_is c.args.year c.requires.low c.requires.high in
     record {
-      value = omega (arith, e, c.before-year.ensures.value, c.before-month.ensures.value);
-      bound = omega (arith, e, c.before-year.ensures.value, c.before-month.ensures.value, easter_below c.args.year c.requires.low c.requires.high);
+      value = omega (arith, e, c.before_year.ensures.value, c.before_month.ensures.value);
+      bound = omega (arith, e, c.before_year.ensures.value, c.before_month.ensures.value, easter_below c.args.year c.requires.low c.requires.high);
     }

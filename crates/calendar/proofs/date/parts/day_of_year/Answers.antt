@@ -6,6 +6,6 @@ pub returns : goal.returns
 returns c =
     let found = year_found c.args.date.number c.args.year c.requires.low c.requires.high c.requires.begun c.requires.ends in
     record {
-      value = ap (λ (x : ℕ). c.args.date.number - x) c.before-year.ensures.value ∙ found.1;
+      value = ap (λ (x : ℕ). c.args.date.number - x) c.before_year.ensures.value ∙ found.1;
       within = omega (arith, year_next c.args.year c.requires.low c.requires.high);
     }

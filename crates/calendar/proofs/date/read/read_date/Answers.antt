@@ -13,14 +13,14 @@ one : (text : List ℕ) (o : Option Date) → option_map number o ≡ date_of te
 one text None e = tt
 one text (Some d) e = one_text text (number d) (date_names text (number d) (sym e))
 
-pub returns-in-err-year : goal.returns-in-err-year
+pub returns-in_err-year : goal.returns-in_err-year
 unfolding date_of
-returns-in-err-year c =
-    let e = ap (option_map number) c.from-residual.ensures ∙ ap day_of_three c.in-err-year.ensures in
-    record { value = e; plain = plain c.args.text.now _ e; one_text = one c.args.text.now c.from-residual.result e }
+returns-in_err-year c =
+    let e = ap (option_map number) c.from_residual.ensures ∙ ap day_of_three c.in_err-year.ensures in
+    record { value = e; plain = plain c.args.text.now _ e; one_text = one c.args.text.now c.from_residual.result e }
 
 pub returns : goal.returns
 unfolding date_of
 returns c =
-    let e = c.new.ensures ∙ ap day_of_three c.in-ok-year.ensures in
+    let e = c.new.ensures ∙ ap day_of_three c.in_ok-year.ensures in
     record { value = e; plain = plain c.args.text.now _ e; one_text = one c.args.text.now c.new.result e }

@@ -1,6 +1,4 @@
 use Rattle.std.proofs.Common.{◌∙◌}
-use Rattle.std.specs.Cmp.Lexicographic.{lexical}
-use Rattle.std.specs.Cmp.{nat_cmp_total}
 use Rattle.codes.proofs.Ordered.{order_of_places}
 use Rattle.codes.proofs.code.order.order_of_places.Goals as goal
 
@@ -8,4 +6,4 @@ pub returns : goal.returns
 returns g c =
     let a = c.args.a.now in
     let b = c.args.b.now in
-    (lexical nat_cmp_total).says a b c.cmp.result c.cmp.ensures ∙ order_of_places g.row.MOST a b c.requires.first c.requires.second c.requires.first-fits c.requires.second-fits
+    c.cmp.ensures ∙ order_of_places g.row.MOST a b c.requires.first c.requires.second c.requires.first_fits c.requires.second_fits

@@ -26,22 +26,22 @@ returns-then-text-ne20 c =
     let e = no_stamp c.args.text.now marks in
     record { value = e; plain = plain c.args.text.now None e; one_text = tt }
 
-pub returns-in-default : goal.returns-in-default
-returns-in-default c =
+pub returns-in_default : goal.returns-in_default
+returns-in_default c =
     let marks : has_marks c.args.text.now ≡ true = grind (arith, nat_tests) in
-    let e = stamp_parts c.args.text.now None _ marks c.in-default.ensures.value refl in
+    let e = stamp_parts c.args.text.now None _ marks c.in_default.ensures.value refl in
     record { value = e; plain = plain c.args.text.now None e; one_text = tt }
 
-pub returns-in-err-second : goal.returns-in-err-second
-returns-in-err-second c =
+pub returns-in_err-second : goal.returns-in_err-second
+returns-in_err-second c =
     let marks : has_marks c.args.text.now ≡ true = grind (arith, nat_tests) in
     let e =
-    ap (option_map instant) c.from-residual.ensures
-    ∙ stamp_parts c.args.text.now _ None marks c.in-Ok.ensures.value c.in-err-second.ensures.value in
-    record { value = e; plain = plain c.args.text.now _ e; one_text = one c.args.text.now c.from-residual.result e }
+    ap (option_map instant) c.from_residual.ensures
+    ∙ stamp_parts c.args.text.now _ None marks c.in-Ok.ensures.value c.in_err-second.ensures.value in
+    record { value = e; plain = plain c.args.text.now _ e; one_text = one c.args.text.now c.from_residual.result e }
 
 pub returns : goal.returns
 returns c =
     let marks : has_marks c.args.text.now ≡ true = grind (arith, nat_tests) in
-    let e = stamp_parts c.args.text.now _ (Some c.in-ok-second.second) marks c.in-Ok.ensures.value c.in-ok-second.ensures.value in
+    let e = stamp_parts c.args.text.now _ (Some c.in_ok-second.second) marks c.in-Ok.ensures.value c.in_ok-second.ensures.value in
     record { value = e; plain = plain c.args.text.now _ e; one_text = one_stamp c.args.text.now _ (instant_names c.args.text.now _ (sym e)) }

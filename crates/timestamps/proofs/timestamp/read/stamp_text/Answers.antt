@@ -6,6 +6,6 @@ use Rattle.timestamps.proofs.timestamp.read.stamp_text.Goals as goal
 pub returns : goal.returns
 returns c =
     record {
-      text = c.joined-text.ensures;
-      reads_back = ap timestamp_of c.joined-text.ensures ∙ instant_read _ _ (stamp_names _ (omega arith));
+      text = c.joined_text.ensures;
+      reads_back = ap timestamp_of c.joined_text.ensures ∙ instant_read _ _ (stamp_names _ (omega arith));
     }

@@ -12,12 +12,12 @@ front t ys n e h = let k : n - 0 ≡ length t = omega arith in ap (λ (m : ℕ).
 pub unreachable-requires : goal.unreachable-requires
 unreachable-requires g c =
     let t : List ℕ = shortest c.args.self.now in
-    let e = front t c.put-text.new.out c.text-len-len.result c.text-len-len.ensures.value c.put-text.ensures.front in
+    let e = front t c.put_text.new.out c.text_len-len.result c.text_len-len.ensures.value c.put_text.ensures.front in
     c.in-Err.ensures.cases.0 (subst IsUtf8 (sym e) (IsUtf8-from_ascii t (shortest_ascii c.args.self.now)))
 
 pub returns-clause-writes : goal.returns-clause-writes
 returns-clause-writes g c =
     let t : List ℕ = shortest c.args.self.now in
     let e : c.in-Ok.text.now ≡ t =
-    c.in-Ok.ensures.cases.0 ∙ front t c.put-text.new.out c.text-len-len.result c.text-len-len.ensures.value c.put-text.ensures.front in
-    λ plain ok. subst (λ (bs : List ℕ). HasWritten {W = g.row.W.Denot} g.W.Write.write_str_gives c.args.f.now bs c.write-str.new.self) e (c.write-str.ensures.writes plain ok)
+    c.in-Ok.ensures.cases.0 ∙ front t c.put_text.new.out c.text_len-len.result c.text_len-len.ensures.value c.put_text.ensures.front in
+    λ plain ok. subst (λ (bs : List ℕ). HasWritten {W = g.row.W.Denot} g.W.Write.write_str_gives c.args.f.now bs c.write_str.new.self) e (c.write_str.ensures.writes plain ok)
