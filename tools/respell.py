@@ -1,12 +1,13 @@
 #!/usr/bin/env python3
 """Respells this repository's own definitions, lemmas and fields in the library's style.
 
-usage: python3 tools/respell.py [TOP]
+usage: python3 tools/respell.py [TOP [TABLE..]]
 
-TOP (default: the folder above this script's) is a checkout whose files have the old names. Each word of tools/respell.tsv
-is replaced by the word beside it, all at once, wherever it stands as a whole name: in the .antt files of specs/ and
-proofs/, in the clauses of src/, in the texts of must-fail edits, and between backticks in README.md and docs/.
-Comments, strings and names of functions keep their spelling. It is meant to run once.
+TOP (default: the folder above this script's) is a checkout whose files have the old names. For each TABLE in turn
+(default: respell.tsv and then respell-more.tsv, beside this script) each word of it is replaced by the word beside it,
+all at once, wherever it stands as a whole name: in the .antt files of specs/ and proofs/, in the clauses of src/, in the
+texts of must-fail edits, and between backticks in README.md and docs/. Comments, strings and names of functions keep
+their spelling. It is meant to run once.
 """
 import os
 import re
@@ -20,8 +21,8 @@ OPAQUE_ANTT = re.compile(r'"(?:[^"\\\n]|\\.)*"|(?<![^\s])--[^\n]*')
 BACKTICKS = re.compile(r"`[^`\n]*`")
 
 
-def table():
-    with open(os.path.join(HERE, "respell.tsv"), encoding="utf-8") as f:
+def table(name):
+    with open(os.path.join(HERE, name), encoding="utf-8") as f:
         return dict(line.rstrip("\n").split("\t") for line in f if line.strip())
 
 
@@ -61,16 +62,17 @@ def paths(top):
 
 def main():
     top = sys.argv[1] if len(sys.argv) > 1 else os.path.dirname(HERE)
-    names, changed = table(), 0
-    for path in paths(top):
-        with open(path, encoding="utf-8") as f:
-            old = f.read()
-        new = respelled(path, old, names)
-        if new != old:
-            changed += 1
-            with open(path, "w", encoding="utf-8") as f:
-                f.write(new)
-    print(f"respell: {len(names)} words, {changed} files changed")
+    for name in sys.argv[2:] or ["respell.tsv", "respell-more.tsv"]:
+        names, changed = table(name), 0
+        for path in paths(top):
+            with open(path, encoding="utf-8") as f:
+                old = f.read()
+            new = respelled(path, old, names)
+            if new != old:
+                changed += 1
+                with open(path, "w", encoding="utf-8") as f:
+                    f.write(new)
+        print(f"respell: {name}: {len(names)} words, {changed} files changed")
 
 
 if __name__ == "__main__":

@@ -9,11 +9,11 @@ use Rattle.amounts.specs.Amounts.{magnitude, worth}
 use Rattle.amounts.specs.Checks.{cut, distance, same}
 use Rattle.amounts.specs.Laws.{AmountLaws}
 use Rattle.amounts.proofs.Shortest.{reads_back}
-use Rattle.amounts.proofs.Units.{cancel_right, fewest_places, same-magnitude, same_sign}
+use Rattle.amounts.proofs.Units.{cancel_right, fewest_places, same_magnitude, same_sign}
 
 one_form : (a b : Amount) → worth a ≡ worth b → (a.negative ≡ b.negative) × (a.digits ≡ b.digits) × (a.places ≡ b.places)
 one_form a b e =
-    let m : magnitude a ≡ magnitude b = same-magnitude a.negative b.negative (magnitude a) (magnitude b) e in
+    let m : magnitude a ≡ magnitude b = same_magnitude a.negative b.negative (magnitude a) (magnitude b) e in
     let p = fewest_places a.digits b.digits a.places b.places b.few_places b.no_zero_at_end m in
     let q = fewest_places b.digits a.digits b.places a.places a.few_places a.no_zero_at_end (sym m) in
     let places : a.places ≡ b.places = omega arith in

@@ -4,7 +4,7 @@ use Prim.Native.Nat.{◌∣◌}
 use native.Mathlib.Nat.{dvd-mul_left, mod-mod_of_dvd}
 use lib.Signed.{lt_z}
 use Rattle.std.specs.Str.Parse.{digits_value}
-use Rattle.std.specs.List.{AllByRecursion as All}
+use Rattle.std.specs.List.{AllByRecursion}
 use Rattle.std.proofs.lemmas.Nat.{div-mul-add}
 use Rattle.std.proofs.ByRecursion.{IsAscii-from_all, All-append}
 use Rattle.std.proofs.lemmas.List.{length-append}
@@ -23,7 +23,7 @@ use Rattle.amounts.specs.Units.{units_per_one, signed}
 use Rattle.amounts.proofs.Fraction.{joined_units}
 use Rattle.amounts.proofs.Parts.{fraction_below, split_fraction, split_value, width_places}
 use Rattle.amounts.proofs.Spelling.{read_spelled, spelled_read}
-use Rattle.amounts.proofs.Units.{fewest_places, same-magnitude}
+use Rattle.amounts.proofs.Units.{fewest_places, same_magnitude}
 
 -- the units' sign and size are those of the amount
 nat_abs-signed : (s : Bool) (m : ℕ) → nat_abs (signed s m) ≡ m
@@ -139,34 +139,34 @@ last_digit d p h =
     mod-mod_of_dvd 10 {b = 10 ^ p} d (subst (λ (x : ℕ). 10 ∣ x) e (dvd-mul_left 10 (10 ^ (p - 1))))
 
 module _ (a : Amount) (text : List ℕ) (n : Bool) (w f : List ℕ) (s : Spelled 20 text n w f) (e : spelled_units n w f ≡ worth a) where
-  places-fit : length f ≤ 19
-  places-fit = omega (arith, s.some, s.few)
+  places_fit : length f ≤ 19
+  places_fit = omega (arith, s.some, s.few)
 
   magnitudes : digits_value 10 w * units_per_one + fraction_units f ≡ magnitude a
-  magnitudes = joined_units w f places-fit ∙ same-magnitude n a.negative (digits_value 10 (w ++ f) * 10 ^ (19 - length f)) (magnitude a) e
+  magnitudes = joined_units w f places_fit ∙ same_magnitude n a.negative (digits_value 10 (w ++ f) * 10 ^ (19 - length f)) (magnitude a) e
 
-  small-fraction : fraction_units f < units_per_one
-  small-fraction = fraction_below (digits_value 10 f) (length f) places-fit (value_below f s.fraction_digits)
+  small_fraction : fraction_units f < units_per_one
+  small_fraction = fraction_below (digits_value 10 f) (length f) places_fit (value_below f s.fraction_digits)
 
-  parts-of-a : whole_of a * units_per_one + a.digits % 10 ^ a.places * 10 ^ (19 - a.places) ≡ magnitude a
-  parts-of-a = split_value a.digits a.places a.few_places
+  parts_of_a : whole_of a * units_per_one + a.digits % 10 ^ a.places * 10 ^ (19 - a.places) ≡ magnitude a
+  parts_of_a = split_value a.digits a.places a.few_places
 
-  small-own : a.digits % 10 ^ a.places * 10 ^ (19 - a.places) < units_per_one
-  small-own = split_fraction a.digits a.places a.few_places
+  small_own : a.digits % 10 ^ a.places * 10 ^ (19 - a.places) < units_per_one
+  small_own = split_fraction a.digits a.places a.few_places
 
-  same-whole-part : digits_value 10 w ≡ whole_of a
-  same-whole-part = omega (arith, magnitudes, parts-of-a, small-fraction, small-own)
+  same_whole_part : digits_value 10 w ≡ whole_of a
+  same_whole_part = omega (arith, magnitudes, parts_of_a, small_fraction, small_own)
 
-  same-fraction : digits_value 10 f * 10 ^ (19 - length f) ≡ a.digits % 10 ^ a.places * 10 ^ (19 - a.places)
-  same-fraction = omega (arith, magnitudes, parts-of-a, small-fraction, small-own)
+  same_fraction : digits_value 10 f * 10 ^ (19 - length f) ≡ a.digits % 10 ^ a.places * 10 ^ (19 - a.places)
+  same_fraction = omega (arith, magnitudes, parts_of_a, small_fraction, small_own)
 
-  whole-needed : width (whole_of a) ≤ length w
-  whole-needed = width_le (whole_of a) (length w) s.some (omega (arith, value_below w s.whole_digits, same-whole-part))
+  whole_needed : width (whole_of a) ≤ length w
+  whole_needed = width_le (whole_of a) (length w) s.some (omega (arith, value_below w s.whole_digits, same_whole_part))
 
-  places-needed : a.places ≤ length f
-  places-needed =
+  places_needed : a.places ≤ length f
+  places_needed =
       fewest_places (digits_value 10 f) (a.digits % 10 ^ a.places) (length f) a.places a.few_places
-      (λ h. omega (arith, a.no_zero_at_end h, last_digit a.digits a.places h)) same-fraction
+      (λ h. omega (arith, a.no_zero_at_end h, last_digit a.digits a.places h)) same_fraction
 
   as_long : length (shortest a) ≤ length text
   as_long =
@@ -175,8 +175,8 @@ module _ (a : Amount) (text : List ℕ) (n : Bool) (w f : List ℕ) (s : Spelled
         length-shortest a,
         ap length s.spelt,
         length-spelled n w (dot_text f),
-        whole-needed,
-        dot_length_le (padded a.places a.digits) f (omega (arith, length-padded a.places a.digits, places-needed)),
+        whole_needed,
+        dot_length_le (padded a.places a.digits) f (omega (arith, length-padded a.places a.digits, places_needed)),
         sign_needed a.negative n (magnitude a) (digits_value 10 (w ++ f) * 10 ^ (19 - length f)) a.no_minus_zero e,
       )
 
@@ -208,11 +208,11 @@ pub dot_length : (p n : ℕ) → 0 < p → p + 1 ≡ length (dot_text (padded p 
 dot_length p n h = add-one p ∙ ap suc (sym (length-padded p n)) ∙ ap length (dot_before p n h)
 
 -- every byte of the text is below 128
-sign_ascii : (n : Bool) → All (λ b. b < 128) (sign_text n)
+sign_ascii : (n : Bool) → AllByRecursion (λ b. b < 128) (sign_text n)
 sign_ascii true = (omega arith, tt)
 sign_ascii false = tt
 
-dot_ascii : (ds : List ℕ) → All (λ b. b < 128) ds → All (λ b. b < 128) (dot_text ds)
+dot_ascii : (ds : List ℕ) → AllByRecursion (λ b. b < 128) ds → AllByRecursion (λ b. b < 128) (dot_text ds)
 dot_ascii [] h = tt
 dot_ascii (d ∷ ds) h = (omega arith, h)
 

@@ -52,14 +52,14 @@ module _ (most : ℕ) (w f : List ℕ) (hw : AllDigits w) (hf : AllDigits f) (so
   run : prefix_len is_ascii_digit (w ++ dot_text f) ≡ length w
   run = run_before w (dot_text f) hw (run_dot f)
 
-  front-is : front (w ++ dot_text f) ≡ w
-  front-is = take_at w (dot_text f) (prefix_len is_ascii_digit (w ++ dot_text f)) (sym run)
+  front_is : front (w ++ dot_text f) ≡ w
+  front_is = take_at w (dot_text f) (prefix_len is_ascii_digit (w ++ dot_text f)) (sym run)
 
-  behind-is : behind (w ++ dot_text f) ≡ dot_text f
-  behind-is = drop_at w (dot_text f) (prefix_len is_ascii_digit (w ++ dot_text f)) (sym run)
+  behind_is : behind (w ++ dot_text f) ≡ dot_text f
+  behind_is = drop_at w (dot_text f) (prefix_len is_ascii_digit (w ++ dot_text f)) (sym run)
 
-  parts-of : magnitude_of most (w ++ dot_text f) ≡ parts most w (dot_text f)
-  parts-of = ap (λ (x : List ℕ). parts most x (behind (w ++ dot_text f))) front-is ∙ ap (parts most w) behind-is
+  parts_of : magnitude_of most (w ++ dot_text f) ≡ parts most w (dot_text f)
+  parts_of = ap (λ (x : List ℕ). parts most x (behind (w ++ dot_text f))) front_is ∙ ap (parts most w) behind_is
 
   passes : (ltb 0 (length w) && (fractional (dot_text f) && leb (length w + length (drop 1 (dot_text f))) most)) ≡ true
   passes =
@@ -69,7 +69,7 @@ module _ (most : ℕ) (w f : List ℕ) (hw : AllDigits w) (hf : AllDigits f) (so
 
   magnitude-spelled : magnitude_of most (w ++ dot_text f) ≡ Some (digits_value 10 w * units_per_one + fraction_units f)
   magnitude-spelled =
-      parts-of ∙ cond-true _ (Some (digits_value 10 w * units_per_one + fraction_units (drop 1 (dot_text f)))) None passes
+      parts_of ∙ cond-true _ (Some (digits_value 10 w * units_per_one + fraction_units (drop 1 (dot_text f)))) None passes
       ∙ ap (λ (x : List ℕ). Some (digits_value 10 w * units_per_one + fraction_units x)) (after_dot f)
 
 -- what is spelled is read

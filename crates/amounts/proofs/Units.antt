@@ -6,11 +6,11 @@ use Rattle.std.proofs.lemmas.Int.{ints}
 use Rattle.texts.proofs.Powers.{ten_pos, ten_more}
 use Rattle.amounts.specs.Units.{signed}
 
-pub same-magnitude : (s t : Bool) (m n : ℕ) → signed s m ≡ signed t n → m ≡ n
-same-magnitude true true m n e = omega (arith, ints)
-same-magnitude true false m n e = omega (arith, ints)
-same-magnitude false true m n e = omega (arith, ints)
-same-magnitude false false m n e = omega (arith, ints)
+pub same_magnitude : (s t : Bool) (m n : ℕ) → signed s m ≡ signed t n → m ≡ n
+same_magnitude true true m n e = omega (arith, ints)
+same_magnitude true false m n e = omega (arith, ints)
+same_magnitude false true m n e = omega (arith, ints)
+same_magnitude false false m n e = omega (arith, ints)
 
 -- what is not zero has one sign
 pub same_sign : (s t : Bool) (m n : ℕ) → (s ≡ true → 0 < m) → (t ≡ true → 0 < n) → signed s m ≡ signed t n → s ≡ t

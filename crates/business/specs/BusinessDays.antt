@@ -18,5 +18,5 @@ abbrev pub opening_of : List ℕ → Option ℕ
 opening_of text = if_open (date_of text)
 
 -- how an opening day is refused: no field is named
-abbrev pub not_aBusiness_day : RefusalParts
-not_aBusiness_day = record { number = 13; words = codes "not a business day"; tag = 0 }
+abbrev pub not_a_business_day : RefusalParts
+not_a_business_day = record { number = 13; words = codes "not a business day"; tag = 0 }

@@ -10,7 +10,7 @@ use Rattle.texts.proofs.Padded.{all_padded}
 use Rattle.calendar.specs.Gregorian.{century, day_at, day_number, day_of_year, days_before, existing, exists, month_at, months_of, part_of, year_at}
 use Rattle.texts.specs.ThreeNumbers.{three_of, three_text}
 use Rattle.calendar.specs.Text.{NamesDay, date_of, date_text, day_of_three}
-use Rattle.calendar.proofs.Parts.{century_days, century-length, exists-parts, month_most, month_next, months_all, months_length, part_at, part_sound, year_length}
+use Rattle.calendar.proofs.Parts.{century_days, century_length, exists_parts, month_most, month_next, months_all, months_length, part_at, part_sound, year_length}
 use Rattle.texts.proofs.ThreeNumbers.{three_back, three_text_lem}
 
 -- the days of a year are those of its months
@@ -25,7 +25,7 @@ civil_of n h =
     let i : ℕ = (part_of century n).0 in
     let r : ℕ = (part_of century n).1 in
     let y : ℕ = 2000 + i in
-    let few : i < 100 = omega (arith, p.0, century-length) in
+    let few : i < 100 = omega (arith, p.0, century_length) in
     let q = part_sound (months_of y) r (omega (arith, p.1, year_length i few, whole_year y)) in
     let m : ℕ = (part_of (months_of y) r).0 in
     let d : ℕ = (part_of (months_of y) r).1 in
@@ -46,7 +46,7 @@ civil_of n h =
 pub civil_back : (y m d : ℕ) → exists y m d ≡ true → (year_at (day_number y m d) ≡ y) × (month_at (day_number y m d) ≡ m) × (day_at (day_number y m d) ≡ d)
 unfolding year_at day_of_year month_at day_at
 civil_back y m d h =
-    let e = exists-parts y m d h in
+    let e = exists_parts y m d h in
     let i : ℕ = y - 2000 in
     let r : ℕ = days_before (months_of y) (m - 1) + (d - 1) in
     let ey : 2000 + i ≡ y = omega (arith, e.0) in
@@ -55,7 +55,7 @@ civil_back y m d h =
     let inside : r < get_or century i 0 =
     omega (arith, short, month_next y (m - 1) em, months_all y (m - 1 + 1), year_length i (omega (arith, e.1)), ap (λ (k : ℕ). days_before (months_of k) 12) ey) in
     let n : day_number y m d ≡ days_before century i + r = omega arith in
-    let p : part_of century (day_number y m d) ≡ (i, r) = ap (part_of century) n ∙ part_at century i r (omega (arith, e.1, century-length)) inside in
+    let p : part_of century (day_number y m d) ≡ (i, r) = ap (part_of century) n ∙ part_at century i r (omega (arith, e.1, century_length)) inside in
     let q : part_of (months_of y) r ≡ (m - 1, d - 1) = part_at (months_of y) (m - 1) (d - 1) (omega (arith, em, months_length y)) short in
     let year : 2000 + (part_of century (day_number y m d)).0 ≡ y = ap (λ (x : ℕ × ℕ). 2000 + x.0) p ∙ ey in
     let rest : part_of (months_of (2000 + (part_of century (day_number y m d)).0)) (part_of century (day_number y m d)).1 ≡ (m - 1, d - 1) =
@@ -66,7 +66,7 @@ civil_back y m d h =
 pub date_read : (text : List ℕ) (n : ℕ) → NamesDay text n → date_of text ≡ Some n
 unfolding date_of existing
 date_read text n s =
-    let e = exists-parts s.year s.month s.day s.there in
+    let e = exists_parts s.year s.month s.day s.there in
     let short : s.day ≤ 31 = omega (arith, e.5, month_most s.year (s.month - 1) (omega (arith, e.2, e.3))) in
     ap (λ (t : List ℕ). day_of_three (three_of 4 45 t)) s.spelt
     ∙ ap day_of_three (three_text_lem 4 45 s.year s.month s.day (omega (arith, e.1)) (omega (arith, e.3)) (omega arith))

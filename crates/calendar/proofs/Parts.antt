@@ -74,12 +74,12 @@ pub year_length : (i : ℕ) → i < 100 → get_or century i 0 ≡ days_before (
 unfolding century months_of
 year_length = equal_below (λ i. get_or century i 0) (λ i. days_before (months_of (2000 + i)) 12) 100 refl
 
-pub century-length : length century ≡ 100
+pub century_length : length century ≡ 100
 unfolding century
-century-length = refl
+century_length = refl
 
 next_year : (i : ℕ) → i < 100 → days_before century (i + 1) ≡ days_before century i + days_before (months_of (2000 + i)) 12
-next_year i h = sum_by_more (λ x. x) century i 0 (omega (arith, century-length)) ∙ ap (λ (x : ℕ). days_before century i + x) (year_length i h)
+next_year i h = sum_by_more (λ x. x) century i 0 (omega (arith, century_length)) ∙ ap (λ (x : ℕ). days_before century i + x) (year_length i h)
 
 pub year_next : (y : ℕ) → 2000 ≤ y → y ≤ 2099 → days_before century (y - 2000 + 1) ≡ days_before century (y - 2000) + days_before (months_of y) 12
 year_next y low high =
@@ -90,7 +90,7 @@ year_next y low high =
 pub year_found : (n y : ℕ) → 2000 ≤ y → y ≤ 2099 → days_before century (y - 2000) ≤ n → n < days_before century (y - 2000 + 1) → (y ≡ year_at n) × (n - days_before century (y - 2000) ≡ day_of_year n)
 unfolding year_at day_of_year
 year_found n y low high begun ends =
-    let e : part_of century n ≡ (y - 2000, n - days_before century (y - 2000)) = part_found century n (y - 2000) (omega (arith, century-length)) begun ends in
+    let e : part_of century n ≡ (y - 2000, n - days_before century (y - 2000)) = part_found century n (y - 2000) (omega (arith, century_length)) begun ends in
     let i : y ≡ 2000 + (y - 2000) = omega arith in
     (i ∙ ap (λ (p : ℕ × ℕ). 2000 + p.0) (sym e), ap (λ (p : ℕ × ℕ). p.1) (sym e))
 
@@ -116,12 +116,12 @@ months_all y m =
     omega (arith, sum_by-take-le (λ x. x) (months_of y) m, ap sum e)
 
 -- what exists returns of its arguments
-pub exists-parts : (y m d : ℕ) → exists y m d ≡ true → (2000 ≤ y) × (y ≤ 2099) × (1 ≤ m) × (m ≤ 12) × (1 ≤ d) × (d ≤ get_or (months_of y) (m - 1) 0)
-exists-parts y m d h = grind (arith, nat_tests)
+pub exists_parts : (y m d : ℕ) → exists y m d ≡ true → (2000 ≤ y) × (y ≤ 2099) × (1 ≤ m) × (m ≤ 12) × (1 ≤ d) × (d ≤ get_or (months_of y) (m - 1) 0)
+exists_parts y m d h = grind (arith, nat_tests)
 
 pub number_below : (y m d : ℕ) → exists y m d ≡ true → day_number y m d < 36525
 number_below y m d h =
-    let p = exists-parts y m d h in
+    let p = exists_parts y m d h in
     omega (arith, p.0, p.1, p.2, p.3, p.4, p.5, year_next y p.0 p.1, month_next y (m - 1) (omega (arith, p.2, p.3)), months_all y (m - 1 + 1), sum_by-take-le (λ x. x) century (y - 2000 + 1), century_days)
 
 month_short : (b : Bool) (m : ℕ) → m < 12 → min 31 (get_or (month_lengths b) m 0) ≡ get_or (month_lengths b) m 0

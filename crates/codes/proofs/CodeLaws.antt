@@ -1,7 +1,7 @@
 -- The laws of codes.
 use Rattle.std.proofs.Common.{◌≡◌, ℕ, suc, ◌+◌, ◌-◌, Bool, true, false, cond, ◌&&◌, ltb, leb, List, [], ◌∷◌, ◌++◌, length, get_or, Some, None, Ordering, Less, Equal, Greater, sym, refl, ap, ◌∙◌, true≢false, arith}
 use Rattle.std.specs.Ordering.{is_eq, ordering_then, nat_cmp}
-use Rattle.std.specs.List.{prefix_len, AllByRecursion as All}
+use Rattle.std.specs.List.{prefix_len, AllByRecursion}
 use Rattle.std.proofs.lemmas.Cmp.{nat_list_cmp_total}
 use Rattle.std.proofs.lemmas.Bool.{and_from, and_parts, eq-eqb, eqb-true, le-leb, leb-true, lt-ltb, ltb-true}
 use Rattle.std.proofs.lemmas.Bool.Decides.{nat_tests}
@@ -18,11 +18,11 @@ all_step : (b : Bool) (n len : ℕ) {P : Type 0} → (n ≡ len → P) → cond 
 all_step true n len f h = (refl, f (omega arith))
 all_step false n len f h = absurd (omega arith)
 
-all_passed : (p : ℕ → Bool) (xs : List ℕ) → prefix_len p xs ≡ length xs → All (λ b. p b ≡ true) xs
+all_passed : (p : ℕ → Bool) (xs : List ℕ) → prefix_len p xs ≡ length xs → AllByRecursion (λ b. p b ≡ true) xs
 all_passed p [] h = tt
 all_passed p (x ∷ xs) h = all_step (p x) (prefix_len p xs) (length xs) (all_passed p xs) h
 
-passed_all : (p : ℕ → Bool) (xs : List ℕ) → All (λ b. p b ≡ true) xs → prefix_len p xs ≡ length xs
+passed_all : (p : ℕ → Bool) (xs : List ℕ) → AllByRecursion (λ b. p b ≡ true) xs → prefix_len p xs ≡ length xs
 passed_all p [] h = refl
 passed_all p (x ∷ xs) h = ap (λ (b : Bool). cond b (1 + prefix_len p xs) 0) h.0 ∙ omega (arith, passed_all p xs h.1)
 

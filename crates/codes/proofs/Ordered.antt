@@ -1,7 +1,7 @@
 -- Texts and the places that hold them sort alike.
 use Rattle.std.proofs.Common.{◌≡◌, ℕ, zero, suc, ◌+◌, ◌-◌, ◌≤◌, Bool, true, false, cond, List, [], ◌∷◌, ◌++◌, length, take, replicate, Decides, Ordering, Less, Equal, Greater, sym, refl, ap, ◌∙◌, subst, one-add, arith}
 use Rattle.std.specs.Ordering.{ordering_then, nat_cmp}
-use Rattle.std.specs.List.{prefix_len, AllByRecursion as All}
+use Rattle.std.specs.List.{prefix_len, AllByRecursion}
 use Rattle.std.proofs.lemmas.Bool.Decides.{nat_tests}
 use Rattle.std.specs.Str.{bytes_eq}
 use Rattle.std.specs.Cmp.{both_ways}
@@ -10,7 +10,7 @@ use Rattle.codes.specs.Codes.{text_order}
 use Rattle.codes.specs.Rules.{non_zero, text_in, ZeroFilled}
 
 abbrev NoZero : List ℕ → Type 0
-NoZero text = All (λ b. non_zero b ≡ true) text
+NoZero text = AllByRecursion (λ b. non_zero b ≡ true) text
 
 text_cons : (b : Bool) (n x : ℕ) (xs : List ℕ) → take (cond b (1 + n) 0) (x ∷ xs) ≡ cond b (x ∷ take n xs) []
 text_cons true n x xs = ap (λ (k : ℕ). take k (x ∷ xs)) (one-add n)

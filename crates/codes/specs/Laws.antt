@@ -2,7 +2,7 @@
 use Rattle.std.specs.Prelude.{◌≡◌, ℕ, ◌-◌, ◌<◌, ◌≤◌, true, List, ◌∷◌, ◌++◌, length, Some, Decides, ◌≢◌, slice_index}
 use Rattle.std.specs.declared.cmp.Ordering.TheVariants.{Less}
 use Rattle.std.specs.Ordering.{is_eq, ordering_reverse}
-use Rattle.std.specs.List.{AllByRecursion as All}
+use Rattle.std.specs.List.{AllByRecursion}
 use Rattle.codes.specs.declared.code.Code.{Code}
 use Rattle.codes.specs.Alphabets.{in_alphabet, end_byte}
 use Rattle.codes.specs.Codes.{text_of, text_order}
@@ -13,7 +13,7 @@ pub record IsCode (alphabet least most : ℕ) (text : List ℕ) : Type 0 where
   pub some : 0 < length text
   pub long : least ≤ length text
   pub short : length text ≤ most
-  pub all : All (λ b. in_alphabet alphabet b ≡ true) text
+  pub all : AllByRecursion (λ b. in_alphabet alphabet b ≡ true) text
   pub first : end_byte alphabet (slice_index text 0) ≡ true
   pub last : end_byte alphabet (slice_index text (length text - 1)) ≡ true
 

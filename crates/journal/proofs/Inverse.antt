@@ -1,7 +1,7 @@
 -- Escapes read back.
 use Rattle.std.proofs.Common.{◌≡◌, ℕ, ◌+◌, ◌-◌, ◌/◌, ◌%◌, ◌<◌, ◌≤◌, Bool, true, false, cond, not, eqb, List, [], ◌∷◌, ◌++◌, length, get_or, take, drop, Some, None, Option, sym, refl, ap, ◌∙◌, append_assoc, append-nil, arith}
 use Rattle.std.specs.Int.{is_in_range}
-use Rattle.std.specs.List.{AllByRecursion as All}
+use Rattle.std.specs.List.{AllByRecursion}
 use Rattle.std.proofs.ByRecursion.{All-append}
 use Rattle.std.proofs.lemmas.Bool.{and_parts}
 use Rattle.std.proofs.lemmas.Nat.{div-add-mod'}
@@ -49,7 +49,7 @@ one_back : (b : ℕ) (xs : List ℕ) (p : Bool) → plain b ≡ p → b < 256 �
 one_back b xs true e h = decoded-plain b xs (grind (arith, nat_tests))
 one_back b xs false e h = ap (λ (o : Option ℕ). before o (decoded xs)) (byte_back b h)
 
-escaped_back : (bs : List ℕ) → All (λ b. b < 256) bs → decoded (escaped bs) ≡ Some bs
+escaped_back : (bs : List ℕ) → AllByRecursion (λ b. b < 256) bs → decoded (escaped bs) ≡ Some bs
 escaped_back [] h = refl
 escaped_back (b ∷ bs) h = one_back b (escaped bs) (plain b) refl h.0 ∙ ap (before (Some b)) (escaped_back bs h.1)
 
@@ -72,13 +72,13 @@ three_pushed b x y z e f g m n o p₁ q₁ p₂ q₂ p₃ q₃ =
 hex_printable : (d : ℕ) → d < 16 → is_in_range 33 126 (hex_digit d) ≡ true
 hex_printable d h = grind (arith, nat_tests)
 
-byte-printable : (b : ℕ) (p : Bool) → plain b ≡ p → b < 256 → All (λ c. is_in_range 33 126 c ≡ true) (cond p (b ∷ []) (37 ∷ (hex_digit (b / 16) ∷ (hex_digit (b % 16) ∷ []))))
-byte-printable b true e h = ((and_parts (is_in_range 33 126 b) (not (eqb b 37)) e).0, tt)
-byte-printable b false e h = (refl, (hex_printable (b / 16) (omega arith), (hex_printable (b % 16) (omega arith), tt)))
+byte_printable : (b : ℕ) (p : Bool) → plain b ≡ p → b < 256 → AllByRecursion (λ c. is_in_range 33 126 c ≡ true) (cond p (b ∷ []) (37 ∷ (hex_digit (b / 16) ∷ (hex_digit (b % 16) ∷ []))))
+byte_printable b true e h = ((and_parts (is_in_range 33 126 b) (not (eqb b 37)) e).0, tt)
+byte_printable b false e h = (refl, (hex_printable (b / 16) (omega arith), (hex_printable (b % 16) (omega arith), tt)))
 
-printable : (bs : List ℕ) → All (λ b. b < 256) bs → All (λ c. is_in_range 33 126 c ≡ true) (escaped bs)
+printable : (bs : List ℕ) → AllByRecursion (λ b. b < 256) bs → AllByRecursion (λ c. is_in_range 33 126 c ≡ true) (escaped bs)
 printable [] h = tt
-printable (b ∷ bs) h = All-append (λ c. is_in_range 33 126 c ≡ true) (escaped_byte b) (escaped bs) (byte-printable b (plain b) refl h.0) (printable bs h.1)
+printable (b ∷ bs) h = All-append (λ c. is_in_range 33 126 c ≡ true) (escaped_byte b) (escaped bs) (byte_printable b (plain b) refl h.0) (printable bs h.1)
 
 pub safe : EscapesAreSafe
 safe = record { unbroken = printable; read_back = escaped_back }

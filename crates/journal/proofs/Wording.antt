@@ -17,9 +17,9 @@ abbrev pub behind_all : List (List ℕ) → Option (List (List ℕ)) → Option 
 behind_all xs (Some ys) = Some (xs ++ ys)
 behind_all xs None = None
 
-pub behind_all-one : (xs : List (List ℕ)) (w : List ℕ) (o : Option (List (List ℕ))) → behind_all xs (before_all (Some w) o) ≡ behind_all (xs ++ (w ∷ [])) o
-behind_all-one xs w None = refl
-behind_all-one xs w (Some ys) = ap Some (sym (append_assoc xs (w ∷ []) ys))
+pub behind_all_one : (xs : List (List ℕ)) (w : List ℕ) (o : Option (List (List ℕ))) → behind_all xs (before_all (Some w) o) ≡ behind_all (xs ++ (w ∷ [])) o
+behind_all_one xs w None = refl
+behind_all_one xs w (Some ys) = ap Some (sym (append_assoc xs (w ∷ []) ys))
 
 -- a word leaves less of its line
 pub after_shorter : (line : List ℕ) → 0 < length (first_word line) → length (after_word line) < length line
@@ -88,5 +88,5 @@ pub word_more : (line rest word after bytes : List ℕ) (xs ys : List (List ℕ)
 word_more line rest word after bytes xs ys inv e f h d more =
     inv
     ∙ ap (behind_all xs) (next_word rest word after e f h ∙ ap (λ (o : Option (List ℕ)). before_all o (decoded_all (words_of after))) d)
-    ∙ behind_all-one xs bytes (decoded_all (words_of after))
+    ∙ behind_all_one xs bytes (decoded_all (words_of after))
     ∙ ap (λ (zs : List (List ℕ)). behind_all zs (decoded_all (words_of after))) (sym more)

@@ -1,7 +1,7 @@
 -- Escapes: a percent sign and two hexadecimal digits in a word name a byte.
 use Rattle.std.specs.Prelude.{◌≡◌, ℕ, ◌+◌, ◌-◌, ◌*◌, ◌/◌, ◌%◌, ◌<◌, Bool, true, cond, not, ◌&&◌, List, [], ◌∷◌, ◌++◌, Some, None, Option, ◌==◌, nat_lt}
 use Rattle.std.specs.Int.{is_in_range}
-use Rattle.std.specs.List.{AllByRecursion as All}
+use Rattle.std.specs.List.{AllByRecursion}
 
 -- the value of a hexadecimal digit, in capitals or not
 abbrev pub hex_value : ℕ → Option ℕ
@@ -44,5 +44,5 @@ escaped (b ∷ bs) = escaped_byte b ++ escaped bs
 
 -- whatever bytes are printed, every byte of that text is one that a word may hold, and it stands for the same bytes
 pub record EscapesAreSafe : Type 0 where
-  pub unbroken : (bytes : List ℕ) → All (λ b. b < 256) bytes → All (λ b. is_in_range 33 126 b ≡ true) (escaped bytes)
-  pub read_back : (bytes : List ℕ) → All (λ b. b < 256) bytes → decoded (escaped bytes) ≡ Some bytes
+  pub unbroken : (bytes : List ℕ) → AllByRecursion (λ b. b < 256) bytes → AllByRecursion (λ b. is_in_range 33 126 b ≡ true) (escaped bytes)
+  pub read_back : (bytes : List ℕ) → AllByRecursion (λ b. b < 256) bytes → decoded (escaped bytes) ≡ Some bytes

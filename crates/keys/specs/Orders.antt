@@ -2,10 +2,9 @@
 use Rattle.std.specs.Prelude.{◌≡◌, ℕ, List}
 use Rattle.std.specs.declared.cmp.Ordering.TheVariants.{Less, Equal}
 use Rattle.std.specs.declared.cmp.Ordering.{Ordering}
-use Rattle.std.specs.Cmp.Lexicographic.{lexical, slice_cmp}
-use Rattle.std.specs.Ordering.{ordering_reverse}
+use Rattle.std.specs.Cmp.Lexicographic.{lists_total, slice_cmp}
+use Rattle.std.specs.Ordering.{nat_cmp, ordering_reverse}
 use Rattle.std.specs.Cmp.{nat_cmp_total}
-use Rattle.std.specs.Ordering as std-orderings
 
 -- how any two keys compare, with the laws of a total order
 pub record TotalOrder (K : Type 0) : Type 0 where
@@ -18,18 +17,18 @@ pub record TotalOrder (K : Type 0) : Type 0 where
 abbrev pub by_text : {K : Type 0} → (K → List ℕ) → TotalOrder K
 by_text text =
     record {
-      rank = λ x y. slice_cmp std-orderings.nat_cmp (text x) (text y);
-      flip = λ x y. (lexical nat_cmp_total).flip (text x) (text y);
-      trans = λ x y z. (lexical nat_cmp_total).trans (text x) (text y) (text z);
-      alike = λ x y z. (lexical nat_cmp_total).alike (text x) (text y) (text z);
+      rank = λ x y. slice_cmp nat_cmp (text x) (text y);
+      flip = λ x y. (lists_total nat_cmp_total).antisymm (text x) (text y);
+      trans = λ x y z. (lists_total nat_cmp_total).trans (text x) (text y) (text z);
+      alike = λ x y z. (lists_total nat_cmp_total).congr (text x) (text y) (text z);
     }
 
 -- and of keys that have several texts: the first that differs decides
 abbrev pub by_texts : {K : Type 0} → (K → List (List ℕ)) → TotalOrder K
 by_texts texts =
     record {
-      rank = λ x y. (slice_cmp (slice_cmp std-orderings.nat_cmp)) (texts x) (texts y);
-      flip = λ x y. (lexical (lexical nat_cmp_total)).flip (texts x) (texts y);
-      trans = λ x y z. (lexical (lexical nat_cmp_total)).trans (texts x) (texts y) (texts z);
-      alike = λ x y z. (lexical (lexical nat_cmp_total)).alike (texts x) (texts y) (texts z);
+      rank = λ x y. slice_cmp (slice_cmp nat_cmp) (texts x) (texts y);
+      flip = λ x y. (lists_total (lists_total nat_cmp_total)).antisymm (texts x) (texts y);
+      trans = λ x y z. (lists_total (lists_total nat_cmp_total)).trans (texts x) (texts y) (texts z);
+      alike = λ x y z. (lists_total (lists_total nat_cmp_total)).congr (texts x) (texts y) (texts z);
     }

@@ -7,7 +7,6 @@ ghost use Rattle.refusals.specs.declared.refusal.Refusal.TheVariants.{RegisterDi
 ghost use Rattle.registers.specs.Listed.{InOrder, Lists};
 
 use codes::code::{Code, Country, Lei};
-use keys::coded::Key;
 use refusals::refusal::Refusal;
 use table::container::Table;
 

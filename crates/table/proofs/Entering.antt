@@ -9,7 +9,7 @@ use Rattle.std.specs.List.{insert}
 use Rattle.std.specs.Ordering.{ordering_reverse}
 use Rattle.table.specs.Changes.{BlanksBehind, PutIn, entered}
 use Rattle.table.specs.Order.{Ascending, Higher, Lower, keys, place}
-use Rattle.table.proofs.Searching.{Placed, placed, higher-greater}
+use Rattle.table.proofs.Searching.{Placed, placed, higher_greater}
 
 -- the used rows, as the code cuts them
 pub cut : {X : Type 0} (xs : List X) (used end : ℕ) → end ≡ min used (length xs) → take (end - 0) xs ≡ take used xs
@@ -44,28 +44,28 @@ module _ {X : Type 0} (xs : List X) (used i : ℕ) (x : X) (le : i ≤ used) (lt
   long : length (insert (take used xs) i x) ≡ suc used
   long = let n = length-take-le used xs (omega arith) in omega (arith, length-insert (take used xs) i x (omega arith))
 
-  front-entered : (j : ℕ) (d : X) → j ≤ used → get_or (entered xs used i x) j d ≡ get_or (insert (take used xs) i x) j d
-  front-entered j d h = let n = long in get_or_append_left (insert (take used xs) i x) (drop (suc used) xs) d j (omega arith)
+  front_entered : (j : ℕ) (d : X) → j ≤ used → get_or (entered xs used i x) j d ≡ get_or (insert (take used xs) i x) j d
+  front_entered j d h = let n = long in get_or_append_left (insert (take used xs) i x) (drop (suc used) xs) d j (omega arith)
 
-  before-entered : (j : ℕ) (d : X) → j < i → get_or (entered xs used i x) j d ≡ get_or xs j d
-  before-entered j d h =
+  before_entered : (j : ℕ) (d : X) → j < i → get_or (entered xs used i x) j d ≡ get_or xs j d
+  before_entered j d h =
       let n = length-take-le used xs (omega arith) in
-      front-entered j d (omega arith) ∙ get_or-insert_below (take used xs) i x d j h (omega arith) ∙ get_or-take used xs j d (omega arith)
+      front_entered j d (omega arith) ∙ get_or-insert_below (take used xs) i x d j h (omega arith) ∙ get_or-take used xs j d (omega arith)
 
-  moved-entered : (j : ℕ) (d : X) → i ≤ j → j < used → get_or (entered xs used i x) (j + 1) d ≡ get_or xs j d
-  moved-entered j d h below =
+  moved_entered : (j : ℕ) (d : X) → i ≤ j → j < used → get_or (entered xs used i x) (j + 1) d ≡ get_or xs j d
+  moved_entered j d h below =
       let n = length-take-le used xs (omega arith) in
-      front-entered (j + 1) d (omega arith) ∙ get_or-insert_above (take used xs) i x d j h (omega arith) ∙ get_or-take used xs j d below
+      front_entered (j + 1) d (omega arith) ∙ get_or-insert_above (take used xs) i x d j h (omega arith) ∙ get_or-take used xs j d below
 
-  beyond-entered : (j : ℕ) (d : X) → used < j → get_or (entered xs used i x) j d ≡ get_or xs j d
-  beyond-entered j d h =
+  beyond_entered : (j : ℕ) (d : X) → used < j → get_or (entered xs used i x) j d ≡ get_or xs j d
+  beyond_entered j d h =
       let e : suc used + (j - suc used) ≡ j = omega arith in
       get_or-append_right (insert (take used xs) i x) (drop (suc used) xs) (suc used) j d long (omega arith)
       ∙ get_or-drop (suc used) xs (j - suc used) d
       ∙ ap (λ n. get_or xs n d) e
 
-  blanks-entered : (n : ℕ) (blank : X) (rest : List X) → BlanksBehind (suc n) blank rest used xs → BlanksBehind n blank rest (suc used) (entered xs used i x)
-  blanks-entered n blank rest e =
+  blanks_entered : (n : ℕ) (blank : X) (rest : List X) → BlanksBehind (suc n) blank rest used xs → BlanksBehind n blank rest (suc used) (entered xs used i x)
+  blanks_entered n blank rest e =
       let one : used + 1 ≡ suc used = omega arith in
       drop_at (insert (take used xs) i x) (drop (suc used) xs) (suc used) long
       ∙ ap (λ m. drop m xs) (sym one)
@@ -78,10 +78,10 @@ module _ {X : Type 0} (xs : List X) (used i : ℕ) (x : X) (le : i ≤ used) (lt
       let e : set ys i x ≡ entered xs used i x = ap (λ zs. set zs i x) moved ∙ shifted in
       record {
         rows = e;
-        before = λ j d h. ap (λ zs. get_or zs j d) e ∙ before-entered j d h;
-        moved = λ j d h below. ap (λ zs. get_or zs (j + 1) d) e ∙ moved-entered j d h below;
-        beyond = λ j d h. ap (λ zs. get_or zs j d) e ∙ beyond-entered j d h;
-        blanks = λ n blank rest h. ap (drop (suc used)) e ∙ blanks-entered n blank rest h;
+        before = λ j d h. ap (λ zs. get_or zs j d) e ∙ before_entered j d h;
+        moved = λ j d h below. ap (λ zs. get_or zs (j + 1) d) e ∙ moved_entered j d h below;
+        beyond = λ j d h. ap (λ zs. get_or zs j d) e ∙ beyond_entered j d h;
+        blanks = λ n blank rest h. ap (drop (suc used)) e ∙ blanks_entered n blank rest h;
       }
 
   module _ {K : Type 0} (id : X → K) where
@@ -109,8 +109,8 @@ module _ {K : Type 0} (order : TotalOrder K) (ks : List K) (k : K) (i : ℕ) (up
   both : {x y u v : K} → x ≡ u → y ≡ v → order.rank u v ≡ Less → order.rank x y ≡ Less
   both p q h = cc
 
-  ascending-between : Ascending order (insert ks i k)
-  ascending-between a b d lt h =
+  ascending_between : Ascending order (insert ks i k)
+  ascending_between a b d lt h =
       let n = length-insert ks i k le in
       ⊎_elim
       (λ e. both (below a d (omega arith)) (here b d e) (lo a d (omega arith)))
@@ -129,7 +129,7 @@ module _ {K : Type 0} (order : TotalOrder K) (ks : List K) (k : K) (i : ℕ) (up
 ascending_placed : {K : Type 0} (order : TotalOrder K) → (ks : List K) (k : K) (i : ℕ) → Ascending order ks → place order ks k ≡ Err i → Ascending order (insert ks i k)
 ascending_placed order ks k i up e =
     let p : Placed order ks k (Err i) = subst (λ (r : Result ℕ ℕ). Placed order ks k r) e (placed order ks k) in
-    ascending-between order ks k i up p.1 p.0 (λ j d h g. higher-greater order ks k i (omega arith) up (p.2 (omega arith)) j d h g)
+    ascending_between order ks k i up p.1 p.0 (λ j d h g. higher_greater order ks k i (omega arith) up (p.2 (omega arith)) j d h g)
 
 -- a row entered at its place keeps the order
 pub ascending_entered : {X K : Type 0} (order : TotalOrder K) (id : X → K) → (xs ys : List X) (used i : ℕ) (x : X) → i ≤ used → used < length xs → ys ≡ entered xs used i x → Ascending order (keys id used xs) → place order (keys id used xs) (id x) ≡ Err i → Ascending order (keys id (suc used) ys)

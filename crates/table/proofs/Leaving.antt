@@ -7,7 +7,7 @@ use Rattle.std.proofs.ByRecursion.{All-from_get_or, All-get_or, all_kept_by}
 use Rattle.std.proofs.lemmas.List.Filters.{FiltersInPlace, FiltersInPlace-more_no, FiltersInPlace-more_set}
 use Rattle.std.proofs.lemmas.List.{append_assoc, drop_all, drop_at, get_or-append_right, get_or-drop, get_or-map, length-append, length-map, length-replicate, length-take-le, take_all, take_at}
 use Rattle.std.proofs.lemmas.Bool.{cases_lt}
-use Rattle.std.specs.List.{AllByRecursion as All}
+use Rattle.std.specs.List.{AllByRecursion}
 use Rattle.table.specs.Changes.{Closes, KeptTo, kept}
 use Rattle.table.specs.Order.{Ascending}
 use Rattle.table.proofs.Entering.{cut}
@@ -16,7 +16,7 @@ use Rattle.table.proofs.Entering.{cut}
 module _ {X K : Type 0} (order : TotalOrder K) (id : X → K) where
   abbrev Climbs : List X → Type 0
   Climbs [] = Unit {0}
-  Climbs (x ∷ xs) = All (λ y. order.rank (id x) (id y) ≡ Less) xs × Climbs xs
+  Climbs (x ∷ xs) = AllByRecursion (λ y. order.rank (id x) (id y) ≡ Less) xs × Climbs xs
 
   climbs : (xs : List X) → Ascending order (map id xs) → Climbs xs
   climbs [] up = tt
@@ -33,28 +33,28 @@ module _ {X K : Type 0} (order : TotalOrder K) (id : X → K) where
       ap (order.rank (id x)) (get_or-map id xs j x d k) ∙ All-get_or (λ y. order.rank (id x) (id y) ≡ Less) xs j x k c.0
   ascends (x ∷ xs) c (suc i) (suc j) d lt h = ascends xs c.1 i j d (omega arith) (omega arith)
 
-  climbs-kept : (p : X → Bool) (xs : List X) → Climbs xs → Climbs (filter p xs)
-  climbs-kept p [] c = tt
-  climbs-kept p (x ∷ xs) c =
+  climbs_kept : (p : X → Bool) (xs : List X) → Climbs xs → Climbs (filter p xs)
+  climbs_kept p [] c = tt
+  climbs_kept p (x ∷ xs) c =
       elim (p x) as (λ v. Climbs (cond v (x ∷ filter p xs) (filter p xs)))
-      [ true ↦ (all_kept_by p (λ y. order.rank (id x) (id y) ≡ Less) xs c.0, climbs-kept p xs c.1) | false ↦ climbs-kept p xs c.1 ]
+      [ true ↦ (all_kept_by p (λ y. order.rank (id x) (id y) ≡ Less) xs c.0, climbs_kept p xs c.1) | false ↦ climbs_kept p xs c.1 ]
 
   -- what is left of ascending rows ascends
-  ascending-kept : (freed : X → Bool) (xs : List X) → Ascending order (map id xs) → Ascending order (map id (kept freed xs))
-  ascending-kept freed xs up = ascends (kept freed xs) (climbs-kept (λ x. not (freed x)) xs (climbs xs up))
+  ascending_kept : (freed : X → Bool) (xs : List X) → Ascending order (map id xs) → Ascending order (map id (kept freed xs))
+  ascending_kept freed xs up = ascends (kept freed xs) (climbs_kept (λ x. not (freed x)) xs (climbs xs up))
 
 -- one row more was looked at
 module _ {X : Type 0} {freed : X → Bool} {all ys : List X} {n i : ℕ} {x : X} (so_far : KeptTo freed all ys n i) (lt : i < length ys) (is : x ≡ get_or ys i x) where
   keeping : FiltersInPlace (λ x. not (freed x)) all ys n i
   keeping = record { front = so_far.front; rest = so_far.rest; behind = so_far.behind; within = so_far.within; long = so_far.long }
 
-  pub kept-no : true ≡ freed x → KeptTo freed all ys n (i + 1)
-  kept-no e =
+  pub kept_no : true ≡ freed x → KeptTo freed all ys n (i + 1)
+  kept_no e =
       let k : FiltersInPlace (λ x. not (freed x)) all ys n (i + 1) = FiltersInPlace-more_no {x = x} keeping lt (ap not (sym e)) is in
       record { front = k.front; rest = k.rest; behind = k.behind; within = k.within; long = k.long }
 
-  pub kept-one : false ≡ freed x → KeptTo freed all (set ys n x) (n + 1) (i + 1)
-  kept-one e =
+  pub kept_one : false ≡ freed x → KeptTo freed all (set ys n x) (n + 1) (i + 1)
+  kept_one e =
       let k : FiltersInPlace (λ x. not (freed x)) all (set ys n x) (n + 1) (i + 1) = FiltersInPlace-more_set {x = x} keeping lt (ap not (sym e)) is in
       record { front = k.front; rest = k.rest; behind = k.behind; within = k.within; long = k.long }
 
@@ -83,8 +83,8 @@ replicate-append (suc m) n x ys =
     ap (λ l. x ∷ l) (replicate-append m n x ys) ∙ ap (λ k. replicate k x ++ ys) e
 
 -- what is behind the used rows, as the code cuts it
-cut-behind : {X : Type 0} (xs : List X) (used end : ℕ) → end ≡ min used (length xs) → drop end xs ≡ drop used xs
-cut-behind xs used end e =
+cut_behind : {X : Type 0} (xs : List X) (used end : ℕ) → end ≡ min used (length xs) → drop end xs ≡ drop used xs
+cut_behind xs used end e =
     ⊎_elim
     (λ l. ap (λ n. drop n xs) (omega arith))
     (λ g. drop_all end xs (omega arith) ∙ sym (drop_all used xs (omega arith)))
@@ -92,11 +92,11 @@ cut-behind xs used end e =
 
 -- all used rows were looked at, and blanks stand behind the kept ones
 module _ {X K : Type 0} (order : TotalOrder K) (id : X → K) (freed : X → Bool) (blank : X) (all ys zs : List X) (used end n : ℕ) (clamped : end ≡ min used (length all)) (done : KeptTo freed all ys n end) (filled : Blanked ys zs n end blank) where
-  same-front : take end all ≡ take used all
-  same-front = let e : end ≡ end - 0 = omega arith in ap (λ m. take m all) e ∙ cut all used end clamped
+  same_front : take end all ≡ take used all
+  same_front = let e : end ≡ end - 0 = omega arith in ap (λ m. take m all) e ∙ cut all used end clamped
 
   front : take n ys ≡ kept freed (take used all)
-  front = done.front ∙ ap (kept freed) same-front
+  front = done.front ∙ ap (kept freed) same_front
 
   count : length (kept freed (take used all)) ≡ n
   count = ap length (sym front) ∙ length-take-le n ys (omega (arith, done.behind, done.within, done.long))
@@ -105,7 +105,7 @@ module _ {X K : Type 0} (order : TotalOrder K) (id : X → K) (freed : X → Boo
   blanked =
       let sum : n + (end - n) ≡ end = omega (arith, done.behind) in
       let full = take_all (end - n) (replicate (end - n) blank) (omega (arith, length-replicate (end - n) blank)) in
-      let rest : drop end ys ≡ drop used all = done.rest ∙ cut-behind all used end clamped in
+      let rest : drop end ys ≡ drop used all = done.rest ∙ cut_behind all used end clamped in
       let f = front in
       let a = append_assoc (kept freed (take used all)) (replicate (end - n) blank) (drop used all) in
       cc
@@ -115,7 +115,7 @@ module _ {X K : Type 0} (order : TotalOrder K) (id : X → K) (freed : X → Boo
       let gap = replicate (end - n) blank in
       let e : zs ≡ (kept freed (take used all) ++ gap) ++ drop used all = blanked ∙ sym (append_assoc (kept freed (take used all)) gap (drop used all)) in
       let size : length (kept freed (take used all) ++ gap) ≡ end = omega (arith, length-append (kept freed (take used all)) gap, count, length-replicate (end - n) blank, done.behind) in
-      let rest : drop used all ≡ drop end all = sym (cut-behind all used end clamped) in
+      let rest : drop used all ≡ drop end all = sym (cut_behind all used end clamped) in
       let back : end + (j - end) ≡ j = omega (arith, clamped) in
       ap (λ xs. get_or xs j d) (e ∙ ap (λ xs. (kept freed (take used all) ++ gap) ++ xs) rest)
       ∙ get_or-append_right (kept freed (take used all) ++ gap) (drop end all) end j d size (omega (arith, clamped))
@@ -124,14 +124,14 @@ module _ {X K : Type 0} (order : TotalOrder K) (id : X → K) (freed : X → Boo
 
   pub closes : Closes order id freed blank used all zs n
   closes =
-      let old : length (take used all) ≡ end = ap length (sym same-front) ∙ length-take-le end all done.within in
+      let old : length (take used all) ≡ end = ap length (sym same_front) ∙ length-take-le end all done.within in
       let gap : length (take used all) - length (kept freed (take used all)) ≡ end - n = omega (arith, old, count) in
       record {
         count = sym count;
         rows = blanked ∙ ap (λ m. kept freed (take used all) ++ (replicate m blank ++ drop used all)) (sym gap);
         ascends = λ up.
             let e : take n zs ≡ kept freed (take used all) = ap (take n) blanked ∙ take_at (kept freed (take used all)) (replicate (end - n) blank ++ drop used all) n count in
-            subst (λ (xs : List X). Ascending order (map id xs)) (sym e) (ascending-kept order id freed (take used all) up);
+            subst (λ (xs : List X). Ascending order (map id xs)) (sym e) (ascending_kept order id freed (take used all) up);
         beyond = beyond;
         blanks = λ m rest le h.
             let g : end - n + m ≡ used - n + m = omega (arith, clamped) in

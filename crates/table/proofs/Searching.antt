@@ -20,27 +20,27 @@ equal_not_greater p q = let z : ◌≡◌ {A = ℕ} 0 1 = cc in omega arith
 
 -- what the key at the place m tells of the others
 module _ {K : Type 0} (order : TotalOrder K) (ks : List K) (k : K) (m : ℕ) (lt : m < length ks) (up : Ascending order ks) where
-  pub lower-less : ((d : K) → order.rank (get_or ks m d) k ≡ Less) → Lower order ks k (m + 1)
-  lower-less at j d h = ⊎_elim (λ e. ap (λ n. order.rank (get_or ks n d) k) e ∙ at d) (λ l. order.trans _ _ _ (up j m d l lt) (at d)) (split j m h)
+  pub lower_less : ((d : K) → order.rank (get_or ks m d) k ≡ Less) → Lower order ks k (m + 1)
+  lower_less at j d h = ⊎_elim (λ e. ap (λ n. order.rank (get_or ks n d) k) e ∙ at d) (λ l. order.trans _ _ _ (up j m d l lt) (at d)) (split j m h)
 
-  pub higher-greater : ((d : K) → order.rank (get_or ks m d) k ≡ Greater) → Higher order ks k m
-  higher-greater at j d h g =
+  pub higher_greater : ((d : K) → order.rank (get_or ks m d) k ≡ Greater) → Higher order ks k m
+  higher_greater at j d h g =
       ⊎_elim
       (λ e. ap (λ n. order.rank (get_or ks n d) k) (sym e) ∙ at d)
       (λ l. order.flip _ _ ∙ ap ordering_reverse (order.trans _ _ _ (order.flip _ _ ∙ ap ordering_reverse (at d)) (up m j d l g)))
       (split m j (omega arith))
 
-  pub lower-equal : ((d : K) → order.rank (get_or ks m d) k ≡ Equal) → Lower order ks k m
-  lower-equal at j d h = order.flip _ _ ∙ ap ordering_reverse (sym (order.alike _ _ _ (at d)) ∙ order.flip _ _ ∙ ap ordering_reverse (up j m d h lt))
+  pub lower_equal : ((d : K) → order.rank (get_or ks m d) k ≡ Equal) → Lower order ks k m
+  lower_equal at j d h = order.flip _ _ ∙ ap ordering_reverse (sym (order.alike _ _ _ (at d)) ∙ order.flip _ _ ∙ ap ordering_reverse (up j m d h lt))
 
 module _ {K : Type 0} (order : TotalOrder K) where
-  pub place-err : (ks : List K) (k : K) (i : ℕ) → i ≤ length ks → Lower order ks k i → Higher order ks k i → place order ks k ≡ Err i
-  place-err [] k zero le lo hi = refl
-  place-err [] k (suc i) le lo hi = absurd (omega arith)
-  place-err (x ∷ ks) k zero le lo hi = ap (λ o. past o (place order ks k)) (hi 0 x (omega arith) (omega arith))
-  place-err (x ∷ ks) k (suc i) le lo hi =
+  pub place_err : (ks : List K) (k : K) (i : ℕ) → i ≤ length ks → Lower order ks k i → Higher order ks k i → place order ks k ≡ Err i
+  place_err [] k zero le lo hi = refl
+  place_err [] k (suc i) le lo hi = absurd (omega arith)
+  place_err (x ∷ ks) k zero le lo hi = ap (λ o. past o (place order ks k)) (hi 0 x (omega arith) (omega arith))
+  place_err (x ∷ ks) k (suc i) le lo hi =
       ap (λ o. past o (place order ks k)) (lo 0 x (omega arith))
-      ∙ ap one_on (place-err ks k i (omega arith) (λ j d h. lo (suc j) d (omega arith)) (λ j d h g. hi (suc j) d (omega arith) (omega arith)))
+      ∙ ap one_on (place_err ks k i (omega arith) (λ j d h. lo (suc j) d (omega arith)) (λ j d h g. hi (suc j) d (omega arith) (omega arith)))
 
   place_ok : (ks : List K) (k : K) (i : ℕ) → i < length ks → Lower order ks k i → ((d : K) → order.rank (get_or ks i d) k ≡ Equal) → place order ks k ≡ Ok i
   place_ok [] k i le lo eq = absurd (omega arith)
@@ -55,13 +55,13 @@ module _ {K : Type 0} (order : TotalOrder K) where
       (λ i. Lower order ks k i × (i < length ks) × ((d : K) → order.rank (get_or ks i d) k ≡ Equal))
       (λ i. Lower order ks k i × (i ≤ length ks) × (i < length ks → (d : K) → order.rank (get_or ks i d) k ≡ Greater))
 
-  lower-cons : (x : K) (ks : List K) (k : K) (i : ℕ) → order.rank x k ≡ Less → Lower order ks k i → Lower order (x ∷ ks) k (suc i)
-  lower-cons x ks k i e lo zero d h = e
-  lower-cons x ks k i e lo (suc j) d h = lo j d (omega arith)
+  lower_cons : (x : K) (ks : List K) (k : K) (i : ℕ) → order.rank x k ≡ Less → Lower order ks k i → Lower order (x ∷ ks) k (suc i)
+  lower_cons x ks k i e lo zero d h = e
+  lower_cons x ks k i e lo (suc j) d h = lo j d (omega arith)
 
   placed-cons : (x : K) (ks : List K) (k : K) (o : Ordering) (r : Result ℕ ℕ) → order.rank x k ≡ o → Placed ks k r → Placed (x ∷ ks) k (past o r)
-  placed-cons x ks k Less (Ok i) e p = (lower-cons x ks k i e p.0, omega (arith, p.1), p.2)
-  placed-cons x ks k Less (Err i) e p = (lower-cons x ks k i e p.0, omega (arith, p.1), λ h d. p.2 (omega arith) d)
+  placed-cons x ks k Less (Ok i) e p = (lower_cons x ks k i e p.0, omega (arith, p.1), p.2)
+  placed-cons x ks k Less (Err i) e p = (lower_cons x ks k i e p.0, omega (arith, p.1), λ h d. p.2 (omega arith) d)
   placed-cons x ks k Equal r e p = (λ j d h. absurd (omega arith), omega arith, λ d. e)
   placed-cons x ks k Greater r e p = (λ j d h. absurd (omega arith), omega arith, λ h d. e)
 
@@ -87,24 +87,24 @@ module _ {K : Type 0} (order : TotalOrder K) (ks : List K) (k : K) (up : Ascendi
   pub answers : Answers order ks k (place order ks k)
   answers = record {
     ok = λ i e. let p : Placed order ks k (Ok i) = subst (λ (r : Result ℕ ℕ). Placed order ks k r) e (placed order ks k) in (p.1, p.2);
-    ok_only = λ i s. place_ok order ks k i s.0 (lower-equal order ks k i s.0 up s.1) s.1;
+    ok_only = λ i s. place_ok order ks k i s.0 (lower_equal order ks k i s.0 up s.1) s.1;
     err = λ i e.
         let p : Placed order ks k (Err i) = subst (λ (r : Result ℕ ℕ). Placed order ks k r) e (placed order ks k) in
-        missing i p.1 p.0 (λ j d h g. higher-greater order ks k i (omega arith) up (p.2 (omega arith)) j d h g);
-    err_only = λ i m. place-err order ks k i m.within m.below
+        missing i p.1 p.0 (λ j d h g. higher_greater order ks k i (omega arith) up (p.2 (omega arith)) j d h g);
+    err_only = λ i m. place_err order ks k i m.within m.below
         (λ j d h g. greater_else _ (λ e. absurd (omega (arith, m.only_below j d g e))) (m.nowhere j d g));
   }
 
   pub tells : (i : ℕ) (o : Ordering) → i < length ks → ((d : K) → order.rank (get_or ks i d) k ≡ o) → Tells order ks k i o
-  tells i Less lt at = lower-less order ks k i lt up at
+  tells i Less lt at = lower_less order ks k i lt up at
   tells i Equal lt at =
-      let e : place order ks k ≡ Ok i = place_ok order ks k i lt (lower-equal order ks k i lt up at) at in
+      let e : place order ks k ≡ Ok i = place_ok order ks k i lt (lower_equal order ks k i lt up at) at in
       (e, subst (λ (r : Result ℕ ℕ). Answers order ks k r) e answers)
-  tells i Greater lt at = higher-greater order ks k i lt up at
+  tells i Greater lt at = higher_greater order ks k i lt up at
 
-  pub answers-err : (i : ℕ) → i ≤ length ks → Lower order ks k i → Higher order ks k i → (Err i ≡ place order ks k) × Answers order ks k (Err i)
-  answers-err i le lo hi =
-      let e : place order ks k ≡ Err i = place-err order ks k i le lo hi in
+  pub answers_err : (i : ℕ) → i ≤ length ks → Lower order ks k i → Higher order ks k i → (Err i ≡ place order ks k) × Answers order ks k (Err i)
+  answers_err i le lo hi =
+      let e : place order ks k ≡ Err i = place_err order ks k i le lo hi in
       (sym e, subst (λ (r : Result ℕ ℕ). Answers order ks k r) e answers)
 
 -- one key more that is greater than the one before it

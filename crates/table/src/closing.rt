@@ -28,7 +28,7 @@ fn keep<R: Freeable>(rows: &mut [R], count: usize, at: usize) -> usize
 // Writes blanks over the rows from the kept ones to the end of the used ones.
 fn blank_rest<R: Freeable>(rows: &mut [R], count: usize, end: usize, blank: R)
     requires { (count ≤ end) × (end ≤ length rows.old) }
-    ensures { (all : List R) (used : ℕ) → end ≡ min used (length all) → KeptTo R.Freeable.freed all rows.old count end → Closes Key-as-Key.order R.Keyed.id R.Freeable.freed blank used all rows.new count }
+    ensures { (all : List R) (used : ℕ) → end ≡ min used (length all) → KeptTo R.Freeable.freed all rows.old count end → Closes R.Key.Key.order R.Keyed.id R.Freeable.freed blank used all rows.new count }
 {
     for i in count..end {
         rows[i] = blank;
@@ -38,7 +38,7 @@ fn blank_rest<R: Freeable>(rows: &mut [R], count: usize, end: usize, blank: R)
 // Takes the freed rows out of the used ones; the others close up in their order, and blanks take the places behind them.
 // The answer is how many rows are used then.
 pub fn close_up<R: Freeable>(rows: &mut [R], used: usize, blank: R) -> usize
-    ensures { Closes Key-as-Key.order R.Keyed.id R.Freeable.freed blank used rows.old rows.new result }
+    ensures { Closes R.Key.Key.order R.Keyed.id R.Freeable.freed blank used rows.old rows.new result }
 {
     let end = used.min(rows.len());
     let mut count = 0;

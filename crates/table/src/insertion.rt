@@ -22,7 +22,7 @@ fn put_in<R: Keyed>(rows: &mut [R], used: usize, at: usize, row: R)
     requires within { at ≤ used }
     requires room { used < length rows.old }
     ensures put { PutIn used rows.old row rows.new at }
-    ensures ascends { Ascending Key-as-Key.order (keys R.Keyed.id used rows.old) → place Key-as-Key.order (keys R.Keyed.id used rows.old) (R.Keyed.id row) ≡ Err at → Ascending Key-as-Key.order (keys R.Keyed.id (suc used) rows.new) }
+    ensures ascends { Ascending R.Key.Key.order (keys R.Keyed.id used rows.old) → place R.Key.Key.order (keys R.Keyed.id used rows.old) (R.Keyed.id row) ≡ Err at → Ascending R.Key.Key.order (keys R.Keyed.id (suc used) rows.new) }
 {
     rows.copy_within(at..used, at + 1);
     rows[at] = row;
@@ -30,7 +30,7 @@ fn put_in<R: Keyed>(rows: &mut [R], used: usize, at: usize, row: R)
 
 // Enters a row at its place among the used rows, unless its key is known or no blank is left.
 pub fn insert<R: Keyed>(rows: &mut [R], used: usize, row: R) -> Insertion
-    ensures { Inserts Key-as-Key.order R.Keyed.id used rows.old row rows.new result }
+    ensures { Inserts R.Key.Key.order R.Keyed.id used rows.old row rows.new result }
 {
     match find_used(rows, used, row.key()) {
         Ok(at) => Insertion::Known(at),

@@ -49,7 +49,7 @@ pub(crate) fn find_used<R: Keyed>(rows: &[R], used: usize, key: &R::Key) -> Resu
 // Whether a row's key is greater than that of the row before it.
 fn steps_up<R: Keyed>(rows: &[R], at: usize) -> bool
     requires { (0 < at) × (at < length rows.now) }
-    ensures { StepsUp Key-as-Key.order (map R.Keyed.id rows.now) at result }
+    ensures { StepsUp R.Key.Key.order (map R.Keyed.id rows.now) at result }
 {
     match rows[at - 1].key().compare(rows[at].key()) {
         Ordering::Less => true,
@@ -59,7 +59,7 @@ fn steps_up<R: Keyed>(rows: &[R], at: usize) -> bool
 
 // Whether the keys of the rows ascend strictly.
 pub fn is_ascending<R: Keyed>(rows: &[R]) -> bool
-    ensures { Decides result (Ascending Key-as-Key.order (map R.Keyed.id rows.now)) }
+    ensures { Decides result (Ascending R.Key.Key.order (map R.Keyed.id rows.now)) }
 {
     for i in 1..rows.len() {
         if !steps_up(rows, i) {

@@ -12,7 +12,7 @@ pub const MOST_ENTRIES: usize = 65_536;
 
 // Refuses a list that is no register: too many entries, or keys that do not ascend strictly.
 pub fn check_register<R: Keyed>(entries: &[R]) -> Result<(), Refusal>
-    ensures { MatchResult result (λ _. IsRegister Key-as-Key.order R.Keyed.id entries.now) (λ e. (e ≡ RegisterDisordered) × (IsRegister Key-as-Key.order R.Keyed.id entries.now → ⊥)) }
+    ensures { MatchResult result (λ _. IsRegister R.Key.Key.order R.Keyed.id entries.now) (λ e. (e ≡ RegisterDisordered) × (IsRegister R.Key.Key.order R.Keyed.id entries.now → ⊥)) }
 {
     if entries.len() > MOST_ENTRIES {
         return Err(Refusal::RegisterDisordered);

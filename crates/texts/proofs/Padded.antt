@@ -9,7 +9,7 @@ use Rattle.std.proofs.lemmas.Nat.{mod_below, pow-add}
 use Rattle.std.proofs.lemmas.Int.Digits.{length-digits_of-le, number_digits_of, number_lt, all_below_base_digits_of}
 use Rattle.std.proofs.lemmas.Bool.Decides.{nat_tests}
 use Rattle.texts.specs.Numerals.{AllDigits, padded, width}
-use Rattle.texts.proofs.Powers.{ten_more, ten_le, ten_pos, mod-ten-more}
+use Rattle.texts.proofs.Powers.{ten_more, ten_le, ten_pos, mod_ten_more}
 use Rattle.texts.proofs.Decimal.{digit_range, digit_value_is, value_below}
 
 pub length-padded : (k n : ℕ) → length (padded k n) ≡ k
@@ -40,7 +40,7 @@ value-padded (suc k) n =
     let d : ℕ = n / 10 ^ k % 10 in
     let small : d < 10 = mod_below (n / 10 ^ k) 10 (omega arith) in
     let v : digit_value (48 + d) ≡ d = digit_value_is (48 + d) (digit_is d small) ∙ omega arith in
-    let m : n % 10 ^ suc k ≡ n / 10 ^ k % 10 * 10 ^ k + n % 10 ^ k = rw add-one at (mod-ten-more n k) in
+    let m : n % 10 ^ suc k ≡ n / 10 ^ k % 10 * 10 ^ k + n % 10 ^ k = rw add-one at (mod_ten_more n k) in
     let z : 0 * 10 + digit_value (48 + d) ≡ d = omega arith in
     value_after_is (0 * 10 + digit_value (48 + d)) (padded k n)
     ∙ ap (λ (x : ℕ). x * 10 ^ length (padded k n) + digits_value 10 (padded k n)) z

@@ -10,8 +10,8 @@ length_front : (at : ℕ) (s xs : List ℕ) → at ≤ length xs → length (tak
 length_front at s xs h = length-append (take at xs) s ∙ ap (λ (n : ℕ). n + length s) (length-take-le at xs h)
 
 -- what is written behind s is written with it
-pub placed-behind : (at n : ℕ) (s t xs : List ℕ) → at + length s ≤ length xs → n ≡ at + length s → placed n t (placed at s xs) ≡ placed at (s ++ t) xs
-placed-behind at n s t xs h e =
+pub placed_behind : (at n : ℕ) (s t xs : List ℕ) → at + length s ≤ length xs → n ≡ at + length s → placed n t (placed at s xs) ≡ placed at (s ++ t) xs
+placed_behind at n s t xs h e =
     let front : List ℕ = take at xs ++ s in
     let rest : List ℕ = drop (at + length s) xs in
     let l : length front ≡ n = length_front at s xs (omega arith) ∙ sym e in
@@ -39,8 +39,8 @@ pub placed_nothing : (at : ℕ) (xs : List ℕ) → placed at [] xs ≡ xs
 placed_nothing at xs = ap (λ (n : ℕ). take at xs ++ drop n xs) (add-zero at) ∙ take-append-drop at xs
 
 -- one byte
-pub placed-byte : (at b : ℕ) (xs : List ℕ) → at < length xs → set xs at b ≡ placed at (b ∷ []) xs
-placed-byte at b xs h = set_split xs at b h ∙ ap (λ (n : ℕ). take at xs ++ (b ∷ drop n xs)) (sym (add-one at))
+pub placed_byte : (at b : ℕ) (xs : List ℕ) → at < length xs → set xs at b ≡ placed at (b ∷ []) xs
+placed_byte at b xs h = set_split xs at b h ∙ ap (λ (n : ℕ). take at xs ++ (b ∷ drop n xs)) (sym (add-one at))
 
 -- digits that fill the part from `at` to `end`
 pub placed_digits : (at end n : ℕ) (ys xs : List ℕ) → at ≤ end → end ≤ length xs → ys ≡ padded (length (take (end - at) (drop at xs))) n → put_mid at (end - at) xs ys ≡ placed at (padded (end - at) n) xs

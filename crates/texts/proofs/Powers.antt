@@ -14,8 +14,8 @@ pub ten_more : (n : ℕ) → 10 ^ (n + 1) ≡ 10 ^ n * 10
 ten_more n = pow-add 10 n 1
 
 -- the digit of 10^k before what is below it
-pub mod-ten-more : (n k : ℕ) → n % 10 ^ (k + 1) ≡ n / 10 ^ k % 10 * 10 ^ k + n % 10 ^ k
-mod-ten-more n k =
+pub mod_ten_more : (n k : ℕ) → n % 10 ^ (k + 1) ≡ n / 10 ^ k % 10 * 10 ^ k + n % 10 ^ k
+mod_ten_more n k =
     let e : 10 ^ (k + 1) ≡ 10 * 10 ^ k = ten_more k ∙ omega arith in
     ap (λ (x : ℕ). n % x) e ∙ mod-mul n {m = 10} {c = 10 ^ k} (omega arith) (ten_pos k)
 

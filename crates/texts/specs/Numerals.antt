@@ -2,11 +2,11 @@
 use Rattle.std.specs.Prelude.{◌≡◌, ℕ, zero, suc, ◌+◌, ◌/◌, ◌%◌, ◌^◌, max, true, List, [], ◌∷◌, length}
 use Rattle.std.specs.Char.{is_ascii_digit}
 use Rattle.std.specs.Int.Digits.{digits_of}
-use Rattle.std.specs.List.{AllByRecursion as All}
+use Rattle.std.specs.List.{AllByRecursion}
 
 -- every byte is one of '0' to '9'
 abbrev pub AllDigits : List ℕ → Type 0
-AllDigits text = All (λ b. is_ascii_digit b ≡ true) text
+AllDigits text = AllByRecursion (λ b. is_ascii_digit b ≡ true) text
 
 -- the last k digits of n, the highest first: zeros stand in front where n has fewer
 abbrev pub padded : ℕ → ℕ → List ℕ

@@ -5,7 +5,7 @@ ghost use Rattle.std.specs.Result.{result_ok};
 ghost use Rattle.calendar.specs.Dates.{number};
 ghost use Rattle.calendar.specs.Gregorian.{day_at, month_at, year_at};
 ghost use Rattle.refusals.specs.Words.{parts_of};
-ghost use Rattle.business.specs.BusinessDays.{day_no, if_open, not_aBusiness_day, opening_of};
+ghost use Rattle.business.specs.BusinessDays.{day_no, if_open, not_a_business_day, opening_of};
 ghost use Rattle.business.specs.TargetDays.{closed, easter_holiday, fixed_holiday, weekend};
 ghost use Rattle.calendar.specs.Easter.{easter_sunday};
 
@@ -77,7 +77,7 @@ impl BusinessDay {
     // The day on which a book opens, as YYYY-MM-DD. A text that names no day, or a closed one, is refused.
     pub fn read(text: &[u8]) -> Result<BusinessDay, Refusal>
         ensures value { option_map day_no (result_ok result) ≡ opening_of text.now }
-        ensures refusal { IfErr result (λ e. parts_of e ≡ not_aBusiness_day) }
+        ensures refusal { IfErr result (λ e. parts_of e ≡ not_a_business_day) }
     {
         let Ok(date) = Date::read(text) else {
             return Err(Refusal::NotABusinessDay);

@@ -10,7 +10,7 @@ loop-i-preserved g c = blanked_more c.args.rows.now c.loop-i.rows c.args.count c
 
 pub returns : goal.returns
 returns g c all used clamped done =
-    let at-end : c.loop-i.i ≡ c.args.end = omega arith in
+    let at_end : c.loop-i.i ≡ c.args.end = omega arith in
     let filled : Blanked c.args.rows.now c.loop-i.rows c.args.count c.args.end c.args.blank =
-    subst (λ (i : ℕ). Blanked c.args.rows.now c.loop-i.rows c.args.count i c.args.blank) at-end c.loop-i.invariant in
-    closes g.Key.Key.order g.R.Keyed.id g.R.Freeable.freed c.args.blank all c.args.rows.now c.loop-i.rows used c.args.end c.args.count clamped done filled
+    subst (λ (i : ℕ). Blanked c.args.rows.now c.loop-i.rows c.args.count i c.args.blank) at_end c.loop-i.invariant in
+    closes g.R.Key.Key.order g.R.Keyed.id g.R.Freeable.freed c.args.blank all c.args.rows.now c.loop-i.rows used c.args.end c.args.count clamped done filled

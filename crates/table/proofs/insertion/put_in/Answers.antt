@@ -6,8 +6,8 @@ returns g c =
     let xs = c.args.rows.now in
     let used = c.args.used in
     let at = c.args.at in
-    let put = put_in xs used at c.args.row c.requires.within c.requires.room _ c.copy-within.ensures.after in
+    let put = put_in xs used at c.args.row c.requires.within c.requires.room _ c.copy_within.ensures.after in
     record {
       put = put;
-      ascends = ascending_entered g.Key.Key.order g.R.Keyed.id xs _ used at c.args.row c.requires.within c.requires.room put.rows;
+      ascends = ascending_entered g.R.Key.Key.order g.R.Keyed.id xs _ used at c.args.row c.requires.within c.requires.room put.rows;
     }

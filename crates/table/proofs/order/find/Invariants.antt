@@ -5,7 +5,7 @@ use Rattle.table.proofs.order.find.Given as goal
 -- what is below `low` is less, and what is from `high` on is greater
 abbrev pub invariant-loop-low : goal.invariant-loop-low
 invariant-loop-low g l =
-    let order = g.Key.Key.order in
+    let order = g.R.Key.Key.order in
     let ks = map g.R.Keyed.id l.rows in
     (l.low ≤ l.high) × (l.high ≤ length l.rows) × (Ascending order ks → Lower order ks l.key l.low) × (Ascending order ks → Higher order ks l.key l.high)
 

@@ -5,7 +5,7 @@ use Rattle.table.proofs.order.find_used.Goals as goal
 
 pub returns : goal.returns
 returns g c =
-    let order = g.Key.Key.order in
+    let order = g.R.Key.Key.order in
     let id = g.R.Keyed.id in
     let k = c.args.key.now in
     let xs = c.args.rows.now in

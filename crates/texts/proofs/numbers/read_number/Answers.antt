@@ -10,10 +10,10 @@ use Rattle.texts.proofs.numbers.read_number.Goals as goal
 pub returns-then-leading_digits-digits : goal.returns-then-leading_digits-digits
 returns-then-leading_digits-digits c =
     let ds = c.args.digits.now in
-    let no-digits : all_ascii_digits ds ≡ false =
+    let no_digits : all_ascii_digits ds ≡ false =
     elim (cases_Bool (all_ascii_digits ds))
     [ inl t ↦ absurd (omega (arith, all_run ds ((digits_decided ds).0 t), c.leading_digits.ensures.value, c.if-leading_digits-digits.true)) | inr f ↦ f ] in
-    record { value = sym (cond-false _ (Some (digits_value 10 ds)) None no-digits); bound = tt }
+    record { value = sym (cond-false _ (Some (digits_value 10 ds)) None no_digits); bound = tt }
 
 pub number-requires : goal.number-requires
 number-requires c =

@@ -2,7 +2,7 @@ use Rattle.std.proofs.Common.{◌≡◌, ℕ, ◌+◌, ◌-◌, List, [], ◌∷
 use Rattle.std.proofs.lemmas.List.{length-set}
 use Rattle.texts.specs.Numerals.{padded}
 use Rattle.texts.specs.Placed.{placed}
-use Rattle.texts.proofs.Placed.{placed-behind, placed-byte, placed_digits, placed_nothing}
+use Rattle.texts.proofs.Placed.{placed_behind, placed_byte, placed_digits, placed_nothing}
 use Rattle.amounts.specs.Spelling.{dot_text}
 use Rattle.amounts.proofs.Shortest.{dot_length, dot_before}
 use Rattle.amounts.proofs.amount.write.put_fraction.Goals as goal
@@ -23,8 +23,8 @@ returns-then-places-gt0 c =
     let k : at + 1 + p - (at + 1) ≡ p = omega arith in
     placed_digits (at + 1) (at + 1 + p) n c.write_digits.new.out (set xs at 46) (omega arith) (omega (arith, length-set xs at 46)) c.write_digits.ensures.text
     ∙ ap (λ (x : ℕ). placed (at + 1) (padded x n) (set xs at 46)) k
-    ∙ ap (placed (at + 1) (padded p n)) (placed-byte at 46 xs (omega arith))
-    ∙ placed-behind at (at + 1) (46 ∷ []) (padded p n) xs (omega arith) refl
+    ∙ ap (placed (at + 1) (padded p n)) (placed_byte at 46 xs (omega arith))
+    ∙ placed_behind at (at + 1) (46 ∷ []) (padded p n) xs (omega arith) refl
     ∙ ap (λ (t : List ℕ). placed at t xs) (dot_before p n c.if-places-gt0.true)
 
 pub returns-else-places-gt0 : goal.returns-else-places-gt0

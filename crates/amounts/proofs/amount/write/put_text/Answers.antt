@@ -4,7 +4,7 @@ use Rattle.std.proofs.lemmas.List.{length-append, take_at}
 use Rattle.texts.specs.Numerals.{padded, width}
 use Rattle.texts.specs.Placed.{placed}
 use Rattle.texts.proofs.Padded.{length-padded}
-use Rattle.texts.proofs.Placed.{placed-behind, placed_digits}
+use Rattle.texts.proofs.Placed.{placed_behind, placed_digits}
 use Rattle.amounts.specs.declared.amount.Amount.{Amount}
 use Rattle.amounts.specs.Shortest.{shortest}
 use Rattle.amounts.specs.Amounts.{whole_of}
@@ -23,8 +23,8 @@ three a xs ys zs us sign count whole room es ec ew e1 e2 e3 =
     let p : padded count whole ≡ w = ap (λ (k : ℕ). padded k whole) ec ∙ ap (padded (width (whole_of a))) ew in
     let ls = length-append s w in
     let q : zs ≡ placed 0 (s ++ w) xs =
-    e2 ∙ ap (λ (t : List ℕ). placed sign t ys) p ∙ ap (placed sign w) e1 ∙ placed-behind 0 sign s w xs (omega arith) (omega arith) in
-    e3 ∙ ap (placed (sign + count) f) q ∙ placed-behind 0 (sign + count) (s ++ w) f xs (omega arith) (omega arith)
+    e2 ∙ ap (λ (t : List ℕ). placed sign t ys) p ∙ ap (placed sign w) e1 ∙ placed_behind 0 sign s w xs (omega arith) (omega arith) in
+    e3 ∙ ap (placed (sign + count) f) q ∙ placed_behind 0 (sign + count) (s ++ w) f xs (omega arith) (omega arith)
     ∙ ap (λ (t : List ℕ). placed 0 t xs) (append_assoc s w f)
     ∙ ap (λ (k : ℕ). (s ++ (w ++ f)) ++ drop k xs) (zero-add (length (s ++ (w ++ f))))
     ∙ ap (λ (t : List ℕ). t ++ drop (length t) xs) (sym (shortest-parts a))

@@ -18,8 +18,8 @@ returns-then-hour-gt23 c =
     let h : ℕ = c.in_ok-hour.hour in
     let m : ℕ = c.in_ok-hour.minute in
     let s : ℕ = c.in_ok-hour.second in
-    let no-time : is_time h m s ≡ false = grind (arith, nat_tests, c.then-hour-gt23.either) in
-    record { value = sym (cond-false (is_time h m s) (Some (h * 3600 + m * 60 + s)) None no-time) ∙ ap second_of_three c.in_ok-hour.ensures; bound = tt }
+    let no_time : is_time h m s ≡ false = grind (arith, nat_tests, c.then-hour-gt23.either) in
+    record { value = sym (cond-false (is_time h m s) (Some (h * 3600 + m * 60 + s)) None no_time) ∙ ap second_of_three c.in_ok-hour.ensures; bound = tt }
 
 pub returns : goal.returns
 unfolding clock_of
