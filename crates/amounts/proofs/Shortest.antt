@@ -10,7 +10,7 @@ use Rattle.std.proofs.ByRecursion.{IsAscii-from_all, All-append}
 use Rattle.std.proofs.lemmas.List.{length-append}
 use Rattle.std.proofs.lemmas.Int.{ints}
 use Rattle.std.proofs.lemmas.Bool.Decides.{nat_tests}
-use Rattle.texts.specs.Numerals.{AllDigits, numeral, padded, width}
+use Rattle.texts.specs.Numerals.{numeral, padded, width}
 use Rattle.texts.proofs.Padded.{length-padded, all_padded, padded_shifted, value-padded, value-padded_all, below_width, width_le, width_some}
 use Rattle.texts.proofs.Powers.{ten_more}
 use Rattle.texts.proofs.Decimal.{digits_ascii, value_below}

@@ -7,10 +7,8 @@ pub mod uses;
 #[cfg(test)]
 mod tests {
     use crate::sample::{Sample, SampleKey};
-    use crate::uses::Key;
     use codes::code::read::NotACode;
     use codes::code::{ClientCode, Country, Lei, TradeId};
-    use keys::coded::Key;
     use refusals::refusal::Refusal;
     use std::test::Fail;
     use table::container::Table;
