@@ -1,13 +1,17 @@
 -- Proofs of the laws of amounts.
-use Rattle.std.proofs.Common.{◌≡◌, ℕ, ◌-◌, ◌*◌, ◌^◌, eqb, ℤ, nat_abs, Decides, sym, refl, ap, ◌∙◌, arith}
+use Rattle.std.proofs.Common.{◌≡◌, ℕ, ◌-◌, ◌*◌, ◌^◌, Bool, ◌&&◌, eqb, ℤ, nat_abs, Decides, sym, refl, ap, ◌∙◌, arith}
 use native.Mathlib.Nat.{max_comm}
 use Rattle.std.proofs.lemmas.Int.{ints}
-use Rattle.std.proofs.lemmas.Bool.{eqb-true, eq-eqb}
+use Rattle.std.specs.Bool.{beq}
+use Rattle.std.specs.Cmp.{booleans_Decides}
+use Rattle.std.proofs.lemmas.Bool.{eqb-true, eq-eqb, and_from, and_parts}
+use Rattle.std.proofs.lemmas.Bool.Decides.{same_from_decides}
 use Rattle.texts.proofs.Powers.{ten_pos}
 use Rattle.amounts.specs.declared.amount.Amount.{Amount}
 use Rattle.amounts.specs.Amounts.{magnitude, worth}
 use Rattle.amounts.specs.Checks.{cut, distance, same}
 use Rattle.amounts.specs.Laws.{AmountLaws}
+use Rattle.amounts.specs.Units.{signed}
 use Rattle.amounts.proofs.Shortest.{reads_back}
 use Rattle.amounts.proofs.Units.{cancel_right, fewest_places, same_magnitude, same_sign}
 
@@ -32,6 +36,23 @@ equality x y = ((λ t. let z : distance x y ≡ 0 = eqb-true (distance x y) 0 t 
 
 same_exchanged : (x y : ℤ) → same x y ≡ same y x
 same_exchanged x y = ap (λ (d : ℕ). eqb d 0) (distance_exchanged x y)
+
+fields_decide : (a b : Amount) → Decides (beq a.negative b.negative && (eqb a.digits b.digits && eqb a.places b.places)) (worth a ≡ worth b)
+fields_decide a b = (
+  (λ t.
+      let p = and_parts _ _ t in
+      let q = and_parts _ _ p.1 in
+      ap (λ (s : Bool). signed s (magnitude a)) ((booleans_Decides a.negative b.negative).0 p.0)
+      ∙ ap (λ (d : ℕ). signed b.negative (d * 10 ^ (19 - a.places))) (eqb-true a.digits b.digits q.0)
+      ∙ ap (λ (k : ℕ). signed b.negative (b.digits * 10 ^ (19 - k))) (eqb-true a.places b.places q.1)),
+  λ e.
+      let f = one_form a b e in
+      and_from _ _ ((booleans_Decides a.negative b.negative).1 f.0) (and_from _ _ (eq-eqb a.digits b.digits f.1) (eq-eqb a.places b.places f.2)),
+)
+
+-- the test of equality and that of the fields are one
+pub same_fields : (a b : Amount) → same (worth a) (worth b) ≡ (beq a.negative b.negative && (eqb a.digits b.digits && eqb a.places b.places))
+same_fields a b = same_from_decides _ _ (equality (worth a) (worth b)) (fields_decide a b)
 
 pub laws : AmountLaws
 laws = record {

@@ -5,26 +5,54 @@ ghost use Rattle.amounts.specs.Units.{units_per_one};
 
 use super::Amount;
 
+// How many units make one.
+const ONE: u128 = 10_000_000_000_000_000_000;
+
 // 10^n.
+#[tactic(auto, using(texts::proofs::Powers::ten_pos))]
 pub(super) fn power_of_ten(n: u8) -> u128
     requires { n ≤ 20 }
     ensures value { result ≡ 10 ^ n }
     ensures positive { 0 < result }
 {
-    let mut power: u128 = 1;
-    for i in 0..n {
-        power *= 10;
-    }
-    power
+    10u128.pow(u32::from(n))
 }
 
-// The whole part, and the units that the fraction makes.
-pub(super) fn split(a: &Amount) -> (u128, u128)
-    ensures value { result.0 * units_per_one + result.1 ≡ magnitude a.now }
-    ensures whole { result.0 < 10 ^ 20 }
-    ensures fraction { result.1 < units_per_one }
-{
-    let unit = power_of_ten(a.places);
-    let scale = power_of_ten(19 - a.places);
-    (a.digits / unit, a.digits % unit * scale)
+// A whole part, and the units that a fraction makes. The derived order is that of the values.
+#[derive(Clone, Copy, PartialEq, PartialOrd)]
+pub(super) struct Parts {
+    pub(super) whole: u128,
+    fraction: u128,
+    ghost below_one: { fraction < units_per_one },
+}
+
+impl Parts {
+    // So many times as much. Whole part and fraction are multiplied apart, since 10^41 units are past 128 bits.
+    pub(super) fn times(self, factor: u8) -> Parts
+        requires { self.whole < 10 ^ 20 }
+        ensures { result.whole * units_per_one + result.fraction ≡ (self.whole * units_per_one + self.fraction) * factor }
+    {
+        let factor = u128::from(factor);
+        let units = self.fraction * factor;
+        Parts {
+            whole: self.whole * factor + units / ONE,
+            fraction: units % ONE,
+        }
+    }
+}
+
+impl Amount {
+    // The parts of the magnitude.
+    #[tactic(auto, using(crate::proofs::Parts::split_value, crate::proofs::Parts::split_fraction))]
+    pub(super) fn parts(&self) -> Parts
+        ensures value { result.whole * units_per_one + result.fraction ≡ magnitude self.now }
+        ensures whole { result.whole < 10 ^ 20 }
+    {
+        let unit = power_of_ten(self.places);
+        let scale = power_of_ten(19 - self.places);
+        Parts {
+            whole: self.digits / unit,
+            fraction: self.digits % unit * scale,
+        }
+    }
 }
