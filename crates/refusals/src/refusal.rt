@@ -1,8 +1,10 @@
 // The refusals.
 ghost use Rattle.std.specs.Prelude.{◌≡◌, Some};
-ghost use Rattle.refusals.specs.Words.{parts_of, refusal_text};
+ghost use Rattle.std.specs.Option.{option_map_or};
+ghost use Rattle.refusals.specs.Words.{parts_of, refusal_text, tag_number};
 
 use crate::tag::Tag;
+use std::error::Error;
 use std::fmt;
 
 // Why a call is sent back. It leaves everything as it was.
@@ -28,14 +30,13 @@ impl Refusal {
         }
     }
 
-    // The tag of the field at fault, or 0.
-    pub fn tag(self) -> u8
-        ensures { result ≡ (parts_of self).tag }
+    // The field at fault, if the refusal names one.
+    pub fn tag(self) -> Option<Tag>
+        ensures { option_map_or tag_number result 0 ≡ (parts_of self).tag }
     {
         match self {
-            Refusal::BadField(tag) => tag.number(),
-            Refusal::NotABusinessDay => 0,
-            Refusal::RegisterDisordered => 0,
+            Refusal::BadField(tag) => Some(tag),
+            Refusal::NotABusinessDay | Refusal::RegisterDisordered => None,
         }
     }
 
@@ -57,10 +58,11 @@ impl fmt::Display for Refusal {
     fn fmt<W: fmt::Write>(&self, f: &mut fmt::Formatter<W>) -> fmt::Result {
         let number = self.number();
         let words = self.words();
-        let tag = self.tag();
-        if tag == 0 {
-            return write!(f, "refused {number} {words}");
+        match self.tag() {
+            Some(tag) => write!(f, "refused {number} {words} tag {tag}"),
+            None => write!(f, "refused {number} {words}"),
         }
-        write!(f, "refused {number} {words} tag {tag}")
     }
 }
+
+impl Error for Refusal {}

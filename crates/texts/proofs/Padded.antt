@@ -9,7 +9,7 @@ use Rattle.std.proofs.lemmas.Nat.{mod_below, pow-add}
 use Rattle.std.proofs.lemmas.Int.Digits.{length-digits_of-le, number_digits_of, number_lt, all_below_base_digits_of}
 use Rattle.std.proofs.lemmas.Bool.Decides.{nat_tests}
 use Rattle.texts.specs.Numerals.{AllDigits, padded, width}
-use Rattle.texts.proofs.Powers.{ten_more, ten_le, ten_pos, mod_ten_more}
+use Rattle.texts.proofs.Powers.{ten_least, ten_more, ten_le, ten_pos, mod_ten_more}
 use Rattle.texts.proofs.Decimal.{digit_range, digit_value_is, value_below}
 
 pub length-padded : (k n : ℕ) → length (padded k n) ≡ k
@@ -60,6 +60,17 @@ below_width n =
 
 pub width_le : (n k : ℕ) → 0 < k → n < 10 ^ k → width n ≤ k
 width_le n k some h = omega (arith, length-digits_of-le 10 k n (omega arith) h)
+
+-- a number between a power of ten and the next one
+pub width_told : (n k : ℕ) → 10 ^ k ≤ n → n < 10 * 10 ^ k → k + 1 ≡ width n
+width_told n k low high =
+    omega (arith, width_le n (k + 1) (omega arith) (omega (arith, ten_more k)), ten_least k (width n) n low (below_width n))
+
+pub below_told : (n k : ℕ) → n < 10 * 10 ^ k → n < 10 ^ (k + 1)
+below_told n k high = omega (arith, ten_more k)
+
+pub least_told : (n k j : ℕ) → 10 ^ k ≤ n → n < 10 ^ j → k + 1 ≤ j
+least_told n k j low h = omega (arith, ten_least k j n low h)
 
 pub width_some : (n : ℕ) → 0 < width n
 width_some n = omega arith

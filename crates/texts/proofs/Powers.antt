@@ -1,5 +1,6 @@
 -- Powers of ten.
-use Rattle.std.proofs.Common.{◌≡◌, ℕ, ◌+◌, ◌*◌, ◌/◌, ◌%◌, ◌^◌, ◌<◌, ◌≤◌, sym, ap, ◌∙◌, arith}
+use Rattle.std.proofs.lemmas.Bool.{cases_lt}
+use Rattle.std.proofs.Common.{◌≡◌, ℕ, ◌+◌, ◌*◌, ◌/◌, ◌%◌, ◌^◌, ◌<◌, ◌≤◌, sym, ap, ◌∙◌, inl, inr, arith}
 use native.Mathlib.Nat.{pow-le-pow_right, div-div-eq-div-mul}
 use lib.Arith.{mod-mul}
 use Rattle.std.proofs.lemmas.Nat.{pow-add}
@@ -12,6 +13,10 @@ ten_pos n = omega (arith, ten_le 0 n (omega arith))
 
 pub ten_more : (n : ℕ) → 10 ^ (n + 1) ≡ 10 ^ n * 10
 ten_more n = pow-add 10 n 1
+
+-- a power that is at most a number below another power has the lesser exponent
+pub ten_least : (k j n : ℕ) → 10 ^ k ≤ n → n < 10 ^ j → k < j
+ten_least k j n h g = elim (cases_lt k j) [ inl lt ↦ lt | inr ge ↦ absurd (omega (arith, ten_le j k ge)) ]
 
 -- the digit of 10^k before what is below it
 pub mod_ten_more : (n k : ℕ) → n % 10 ^ (k + 1) ≡ n / 10 ^ k % 10 * 10 ^ k + n % 10 ^ k

@@ -6,9 +6,6 @@ pub fn as_str(bytes: &[u8]) -> &str
     requires { IsAscii bytes.now }
     ensures { result.now ≡ bytes.now }
 {
-    match std::str::from_utf8(bytes) {
-        Ok(text) => text,
-        // ASCII is UTF-8
-        Err(_) => unreachable!(),
-    }
+    // ASCII is UTF-8
+    std::str::from_utf8(bytes).unwrap()
 }

@@ -4,7 +4,7 @@ ghost use Rattle.std.specs.Str.Parse.{digits_value};
 ghost use Rattle.std.specs.Str.{all_ascii_digits};
 ghost use Rattle.texts.specs.ThreeNumbers.{three_of};
 
-use crate::digits::{leading_digits, number};
+use crate::digits::Digits;
 
 // The last digit of a number, as text.
 pub fn last_digit(n: u16) -> u8
@@ -13,16 +13,14 @@ pub fn last_digit(n: u16) -> u8
     b'0' + (n % 10) as u8
 }
 
-// The number that at most four digits mean.
-fn read_number(digits: &[u8]) -> Option<u16>
-    requires { length digits.now ≤ 4 }
-    ensures value { result ≡ (if all_ascii_digits digits.now then Some (digits_value 10 digits.now) else None) }
-    ensures bound { IfSome result (λ n. n < 10 ^ length digits.now) }
+// The number that a text of at most four digits means.
+fn read_number(text: &[u8]) -> Option<u16>
+    requires { length text.now ≤ 4 }
+    ensures value { result ≡ (if all_ascii_digits text.now then Some (digits_value 10 text.now) else None) }
+    ensures bound { IfSome result (λ n. n < 10 ^ length text.now) }
 {
-    if leading_digits(digits) != digits.len() {
-        return None;
-    }
-    Some(number(digits) as u16)
+    let digits = Digits::new(text)?;
+    Some(digits.number() as u16)
 }
 
 // The three numbers that a text spells.

@@ -1,6 +1,6 @@
-use Rattle.std.proofs.Common.{◌≡◌, ℕ, ◌+◌, ◌-◌, ◌/◌, ◌%◌, ◌^◌, ◌<◌, ◌≢◌, List, length, get_or, set, sym, ap, ◌∙◌, subst, arith, below_more}
+use Rattle.std.proofs.Common.{◌≡◌, ℕ, ◌+◌, ◌-◌, ◌/◌, ◌%◌, ◌^◌, ◌<◌, ◌≤◌, ◌≢◌, List, length, get_or, set, sym, refl, ap, ◌∙◌, subst, arith, below_more}
 use Rattle.std.specs.Str.Parse.{digits_value}
-use Rattle.std.proofs.lemmas.List.{ext_get_or, get_or-set_other, get_or-set_same}
+use Rattle.std.proofs.lemmas.List.{ext_get_or, get_or-set_other, get_or-set_same, length-set}
 use Rattle.texts.specs.Numerals.{AllDigits, padded}
 use Rattle.texts.proofs.Padded.{all_padded, get_or-padded, length-padded, value-padded}
 use Rattle.texts.proofs.Powers.{div_ten_more}
@@ -23,19 +23,29 @@ all_there xs n h =
     let e : length xs - 1 - (length xs - 1 - i) ≡ i = omega arith in
     ap (λ (k : ℕ). get_or xs k 0) (sym e) ∙ h (length xs - 1 - i) (omega arith) ∙ sym (get_or-padded (length xs) n i lt))
 
-pub loop-k-preserved : goal.loop-k-preserved
-loop-k-preserved c = (
-  one_more c.loop-k.out (length c.args.out.now) c.loop-k.k c.loop-k.left c.args.n c.loop-k.auto.out c.loop-k-test.true c.loop-k.invariant.1 c.loop-k.invariant.0,
-  ap (λ (x : ℕ). x / 10) c.loop-k.invariant.1 ∙ div_ten_more c.args.n c.loop-k.k,
-)
+-- the same by the place that is written, counted from the front
+step : (xs : List ℕ) (at rest n : ℕ) → 0 < at → at ≤ length xs → rest ≡ n / 10 ^ (length xs - at) → ((j : ℕ) → j < length xs - at → get_or xs (length xs - 1 - j) 0 ≡ 48 + n / 10 ^ j % 10) → (j : ℕ) → j < length xs - (at - 1) → get_or (set xs (at - 1) (48 + rest % 10)) (length xs - 1 - j) 0 ≡ 48 + n / 10 ^ j % 10
+step xs at rest n some within r tail j lt =
+    let e : length xs - 1 - (length xs - at) ≡ at - 1 = omega arith in
+    ap (λ (i : ℕ). get_or (set xs i (48 + rest % 10)) (length xs - 1 - j) 0) (sym e)
+    ∙ one_more xs (length xs) (length xs - at) rest n refl (omega arith) r tail j (omega arith)
+
+pub loop-at-preserved : goal.loop-at-preserved
+loop-at-preserved c =
+    let len : length (set c.loop-at.out (c.loop-at.at - 1) (48 + c.loop-at.left % 10)) ≡ length c.loop-at.out = length-set _ _ _ in
+    let more : length c.loop-at.out - c.loop-at.at + 1 ≡ length c.loop-at.out - (c.loop-at.at - 1) = omega arith in
+    rw len (
+      step c.loop-at.out c.loop-at.at c.loop-at.left c.args.n (omega arith) (omega arith) c.loop-at.invariant.1 c.loop-at.invariant.0,
+      ap (λ (x : ℕ). x / 10) c.loop-at.invariant.1 ∙ div_ten_more c.args.n (length c.loop-at.out - c.loop-at.at)
+          ∙ ap (λ (k : ℕ). c.args.n / 10 ^ k) more,
+    )
 
 pub returns : goal.returns
 returns c =
-    let out : List ℕ = c.loop-k.out in
-    let len : length out ≡ length c.args.out.now = c.loop-k.auto.out in
+    let out : List ℕ = c.loop-at.out in
+    let len : length out ≡ length c.args.out.now = c.loop-at.auto.out in
     let e : out ≡ padded (length c.args.out.now) c.args.n =
-    all_there out c.args.n (λ j lt. ap (λ (k : ℕ). get_or out (k - 1 - j) 0) len ∙ c.loop-k.invariant.0 j (omega arith))
-    ∙ ap (λ (k : ℕ). padded k c.args.n) len in
+    all_there out c.args.n (λ j lt. c.loop-at.invariant.0 j (omega arith)) ∙ ap (λ (k : ℕ). padded k c.args.n) len in
     record {
       text = e;
       all = subst AllDigits (sym e) (all_padded (length c.args.out.now) c.args.n);
