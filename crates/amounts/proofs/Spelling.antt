@@ -1,5 +1,5 @@
 -- The reader's definition takes just the texts that are spelled as amounts, each for what its digits say.
-use Rattle.std.proofs.Common.{◌≡◌, ℕ, suc, ◌+◌, ◌*◌, ◌<◌, ◌≤◌, Bool, true, false, cond, ◌&&◌, eqb, ltb, leb, List, [], ◌∷◌, ◌++◌, length, drop, ℤ, Some, None, Option, sym, refl, ap, ◌∙◌, inl, inr, one-add, arith}
+use Rattle.std.proofs.Common.{◌≡◌, ℕ, suc, ◌+◌, ◌*◌, ◌<◌, ◌≤◌, Bool, true, false, cond, ◌&&◌, eqb, ltb, leb, List, [], ◌∷◌, ◌++◌, length, drop, ℤ, Some, None, Option, sym, refl, ap, ◌∙◌, subst, inl, inr, one-add, arith}
 use Rattle.std.specs.Option.{option_map}
 use Rattle.std.specs.Str.Parse.{digits_value}
 use Rattle.std.specs.Char.{is_ascii_digit}
@@ -28,7 +28,7 @@ run_dot : (ds : List ℕ) → prefix_len is_ascii_digit (dot_text ds) ≡ 0
 run_dot [] = refl
 run_dot (d ∷ ds) = refl
 
-after_dot : (ds : List ℕ) → drop 1 (dot_text ds) ≡ ds
+pub after_dot : (ds : List ℕ) → drop 1 (dot_text ds) ≡ ds
 after_dot [] = refl
 after_dot (d ∷ ds) = refl
 
@@ -67,7 +67,7 @@ module _ (most : ℕ) (w f : List ℕ) (hw : AllDigits w) (hf : AllDigits f) (so
       (and_from (fractional (dot_text f)) (leb (length w + length (drop 1 (dot_text f))) most) (fractional_dot f hf)
       (ap (λ (x : List ℕ). leb (length w + length x) most) (after_dot f) ∙ le-leb (length w + length f) most few))
 
-  magnitude-spelled : magnitude_of most (w ++ dot_text f) ≡ Some (digits_value 10 w * units_per_one + fraction_units f)
+  pub magnitude-spelled : magnitude_of most (w ++ dot_text f) ≡ Some (digits_value 10 w * units_per_one + fraction_units f)
   magnitude-spelled =
       parts_of ∙ cond-true _ (Some (digits_value 10 w * units_per_one + fraction_units (drop 1 (dot_text f)))) None passes
       ∙ ap (λ (x : List ℕ). Some (digits_value 10 w * units_per_one + fraction_units x)) (after_dot f)
@@ -84,7 +84,7 @@ spelled_read most small text n w f h =
     ∙ ap (λ (x : ℕ). Some (signed n x)) (joined_units w f (omega (arith, h.some, h.few)))
 
 -- what passes for a fraction is a dot and its digits, or nothing
-dot_is : (b : List ℕ) → fractional b ≡ true → (b ≡ dot_text (drop 1 b)) × AllDigits (drop 1 b)
+pub dot_is : (b : List ℕ) → fractional b ≡ true → (b ≡ dot_text (drop 1 b)) × AllDigits (drop 1 b)
 dot_is [] h = (refl, tt)
 dot_is (x ∷ []) h = absurd (false≢true (and_parts (eqb x 46) false h).1)
 dot_is (x ∷ y ∷ ys) h =
@@ -137,6 +137,10 @@ read_spelled most small text z e =
       | inr f ↦ absurd (unread most text z f e)
     ]
 
-pub reads : (most : ℕ) → most ≤ 20 → (text : List ℕ) → Reads most text (amount_of most text)
+reads : (most : ℕ) → most ≤ 20 → (text : List ℕ) → Reads most text (amount_of most text)
 reads most small text z =
     ((λ s. spelled_read most small text s.0 s.1 s.2 s.3 ∙ ap Some s.4), read_spelled most small text z)
+
+-- what is equal to the reader's answer is what the text spells
+pub reads_as : (most : ℕ) (text : List ℕ) (o : Option ℤ) → o ≡ amount_of most text → most ≤ 20 → Reads most text o
+reads_as most text o e small = subst (Reads most text) (sym e) (reads most small text)

@@ -1,8 +1,6 @@
 -- What an `Amount` is worth, in units.
 use Rattle.std.specs.Prelude.{ℕ, ◌-◌, ◌*◌, ◌/◌, ◌^◌, ℤ}
 use Rattle.amounts.specs.declared.amount.Amount.{Amount}
-use Rattle.amounts.specs.declared.amount.read.DigitLimit.{DigitLimit}
-use Rattle.amounts.specs.declared.amount.read.DigitLimit.TheVariants.{Ten, Twenty}
 use Rattle.amounts.specs.Units.{signed}
 
 abbrev pub magnitude : Amount → ℕ
@@ -10,11 +8,6 @@ magnitude a = a.digits * 10 ^ (19 - a.places)
 
 abbrev pub worth : Amount → ℤ
 worth a = signed a.negative (magnitude a)
-
--- how many digits a text may have
-abbrev pub digits_allowed : DigitLimit → ℕ
-digits_allowed Ten = 10
-digits_allowed Twenty = 20
 
 -- the part before the dot
 abbrev pub whole_of : Amount → ℕ

@@ -8,7 +8,7 @@ ghost use Rattle.amounts.specs.Spelling.{Reads};
 
 use super::ExchangeRate;
 use crate::amount::Amount;
-use crate::amount::read::{DigitLimit, NotAnAmount, read_decimal};
+use crate::amount::read::{NotAnAmount, read_decimal};
 
 impl ExchangeRate {
     // The rate that a text spells with at most ten digits.
@@ -16,10 +16,8 @@ impl ExchangeRate {
         ensures value { option_map rate_worth (result_ok result) ≡ amount_of 10 text.now }
         ensures plain { Reads 10 text.now (option_map rate_worth (result_ok result)) }
     {
-        match read_decimal(text, DigitLimit::Ten) {
-            Ok(amount) => Ok(ExchangeRate { amount }),
-            Err(fault) => Err(fault),
-        }
+        let amount = read_decimal::<10>(text)?;
+        Ok(ExchangeRate { amount })
     }
 
     // The rate as an amount, to be compared and written.
