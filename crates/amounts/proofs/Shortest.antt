@@ -1,8 +1,9 @@
 -- The shortest text reads back, and none is shorter.
-use Rattle.std.proofs.Common.{◌≡◌, ℕ, zero, suc, ◌+◌, ◌-◌, ◌*◌, ◌/◌, ◌%◌, ◌^◌, ◌<◌, ◌≤◌, Bool, true, false, eqb, List, [], ◌∷◌, ◌++◌, length, replicate, pos, nat_abs, Some, IsAscii, sym, refl, ap, ◌∙◌, subst, add-one, arith}
+use Rattle.std.proofs.Common.{◌≡◌, ℕ, zero, suc, ◌+◌, ◌-◌, ◌*◌, ◌/◌, ◌%◌, ◌^◌, ◌<◌, ◌≤◌, Bool, true, false, eqb, List, [], ◌∷◌, ◌++◌, length, replicate, pos, nat_abs, Some, IsAscii, sym, refl, ap, ◌∙◌, subst, arith}
 use Prim.Native.Nat.{◌∣◌}
 use native.Mathlib.Nat.{dvd-mul_left, mod-mod_of_dvd}
 use lib.Signed.{lt_z}
+use Rattle.std.specs.Int.{from_bool}
 use Rattle.std.specs.Str.Parse.{digits_value}
 use Rattle.std.specs.List.{AllByRecursion}
 use Rattle.std.proofs.lemmas.Nat.{div-mul-add}
@@ -103,6 +104,15 @@ reads_back most small a few places =
     spelled_read most small (shortest a) a.negative (padded (width (whole_of a)) (whole_of a)) (padded a.places a.digits) (shortest-spelled most a few places)
     ∙ ap Some (shortest_units a)
 
+pub length-sign : (n : Bool) → length (sign_text n) ≡ from_bool n
+length-sign true = refl
+length-sign false = refl
+
+-- a minus in all the room that the sign takes
+pub sign_fills : (n : Bool) → replicate (from_bool n) 45 ≡ sign_text n
+sign_fills true = refl
+sign_fills false = refl
+
 sign_short : (n : Bool) → length (sign_text n) ≤ 1
 sign_short true = omega arith
 sign_short false = omega arith
@@ -200,12 +210,14 @@ at_most_22 a =
     )
 
 -- a dot and places, where there are places
-pub dot_before : (p n : ℕ) → 0 < p → 46 ∷ padded p n ≡ dot_text (padded p n)
-dot_before zero n h = absurd (omega arith)
-dot_before (suc p) n h = refl
-
 pub dot_length : (p n : ℕ) → 0 < p → p + 1 ≡ length (dot_text (padded p n))
-dot_length p n h = add-one p ∙ ap suc (sym (length-padded p n)) ∙ ap length (dot_before p n h)
+dot_length zero n h = absurd (omega arith)
+dot_length (suc p) n h = omega (arith, length-padded p n)
+
+-- a dot, and digits in all the room behind it
+pub dot_fills : (p n k : ℕ) → length (dot_text (padded p n)) ≡ k + 1 → 46 ∷ padded k n ≡ dot_text (padded p n)
+dot_fills zero n k h = absurd (omega arith)
+dot_fills (suc p) n k h = let e : k ≡ suc p = omega (arith, length-padded p n) in ap (λ (j : ℕ). 46 ∷ padded j n) e
 
 -- every byte of the text is below 128
 sign_ascii : (n : Bool) → AllByRecursion (λ b. b < 128) (sign_text n)

@@ -14,11 +14,6 @@ use Rattle.amounts.specs.Spelling.{Spelled, Spells, Reads, sign_text, dot_text, 
 use Rattle.amounts.specs.Units.{units_per_one, signed}
 use Rattle.amounts.proofs.Fraction.{joined_units}
 
--- nothing at all is a fraction with no digits
-pub empty_fraction : (t : List ℕ) → length t ≡ 0 → (fractional t ≡ true) × (t ≡ drop 1 t) × AllDigits t
-empty_fraction [] h = (refl, refl, tt)
-empty_fraction (x ∷ xs) h = absurd (omega arith)
-
 -- digits before something else are just the run at the front
 run_before : (ds rest : List ℕ) → AllDigits ds → prefix_len is_ascii_digit rest ≡ 0 → prefix_len is_ascii_digit (ds ++ rest) ≡ length ds
 run_before [] rest h e = e

@@ -1,6 +1,6 @@
 // The parts of an amount before and behind its dot.
 ghost use Rattle.std.specs.Prelude.{◌≡◌, ◌+◌, ◌*◌, ◌^◌, ◌<◌, ◌≤◌};
-ghost use Rattle.amounts.specs.Amounts.{magnitude};
+ghost use Rattle.amounts.specs.Amounts.{magnitude, whole_of};
 ghost use Rattle.amounts.specs.Units.{units_per_one};
 
 use super::Amount;
@@ -42,17 +42,22 @@ impl Parts {
 }
 
 impl Amount {
+    // The part before the dot.
+    pub(super) fn whole_part(&self) -> u128
+        ensures { result ≡ whole_of self.now }
+    {
+        self.digits / power_of_ten(self.places)
+    }
+
     // The parts of the magnitude.
     #[tactic(auto, using(crate::proofs::Parts::split_value, crate::proofs::Parts::split_fraction))]
     pub(super) fn parts(&self) -> Parts
         ensures value { result.whole * units_per_one + result.fraction ≡ magnitude self.now }
         ensures whole { result.whole < 10 ^ 20 }
     {
-        let unit = power_of_ten(self.places);
-        let scale = power_of_ten(19 - self.places);
         Parts {
-            whole: self.digits / unit,
-            fraction: self.digits % unit * scale,
+            whole: self.whole_part(),
+            fraction: self.digits % power_of_ten(self.places) * power_of_ten(19 - self.places),
         }
     }
 }
