@@ -104,7 +104,7 @@ reads_back most small a few places =
     spelled_read most small (shortest a) a.negative (padded (width (whole_of a)) (whole_of a)) (padded a.places a.digits) (shortest-spelled most a few places)
     ∙ ap Some (shortest_units a)
 
-pub length-sign : (n : Bool) → length (sign_text n) ≡ from_bool n
+length-sign : (n : Bool) → length (sign_text n) ≡ from_bool n
 length-sign true = refl
 length-sign false = refl
 
@@ -130,11 +130,14 @@ dot_length_le (x ∷ xs) (y ∷ ys) h = omega arith
 length-spelled : (n : Bool) (w t : List ℕ) → length (sign_text n ++ (w ++ t)) ≡ length (sign_text n) + (length w + length t)
 length-spelled n w t = length-append (sign_text n) (w ++ t) ∙ ap (λ (x : ℕ). length (sign_text n) + x) (length-append w t)
 
-pub length-shortest : (a : Amount) → length (shortest a) ≡ length (sign_text a.negative) + (width (whole_of a) + length (dot_text (padded a.places a.digits)))
+length-shortest : (a : Amount) → length (shortest a) ≡ length (sign_text a.negative) + (width (whole_of a) + length (dot_text (padded a.places a.digits)))
 length-shortest a =
     ap length (shortest-parts a)
     ∙ length-spelled a.negative (padded (width (whole_of a)) (whole_of a)) (dot_text (padded a.places a.digits))
     ∙ ap (λ (x : ℕ). length (sign_text a.negative) + (x + length (dot_text (padded a.places a.digits)))) (length-padded (width (whole_of a)) (whole_of a))
+
+pub length_told : (a : Amount) → length (shortest a) ≡ from_bool a.negative + (width (whole_of a) + length (dot_text (padded a.places a.digits)))
+length_told a = omega (arith, length-shortest a, length-sign a.negative)
 
 sign_needed : (s t : Bool) (m n : ℕ) → (s ≡ true → 0 < m) → signed t n ≡ signed s m → length (sign_text s) ≤ length (sign_text t)
 sign_needed false t m n h e = omega arith
@@ -197,7 +200,7 @@ none_shorter a text e =
     as_long a text s.0 s.1 s.2 s.3 s.4
 
 -- a minus, twenty digits and a dot
-pub at_most_22 : (a : Amount) → length (shortest a) ≤ 22
+at_most_22 : (a : Amount) → length (shortest a) ≤ 22
 at_most_22 a =
     let p : List ℕ = padded a.places a.digits in
     omega (
@@ -209,6 +212,9 @@ at_most_22 a =
       length-padded a.places a.digits,
     )
 
+pub text_room : (a : Amount) → from_bool a.negative + (width (whole_of a) + length (dot_text (padded a.places a.digits))) ≤ 22
+text_room a = omega (arith, length_told a, at_most_22 a)
+
 -- a dot and places, where there are places
 pub dot_length : (p n : ℕ) → 0 < p → p + 1 ≡ length (dot_text (padded p n))
 dot_length zero n h = absurd (omega arith)
@@ -218,6 +224,9 @@ dot_length (suc p) n h = omega (arith, length-padded p n)
 pub dot_fills : (p n k : ℕ) → length (dot_text (padded p n)) ≡ k + 1 → 46 ∷ padded k n ≡ dot_text (padded p n)
 dot_fills zero n k h = absurd (omega arith)
 dot_fills (suc p) n k h = let e : k ≡ suc p = omega (arith, length-padded p n) in ap (λ (j : ℕ). 46 ∷ padded j n) e
+
+pub reads_back_20 : (a : Amount) → amount_of 20 (shortest a) ≡ Some (worth a)
+reads_back_20 a = reads_back 20 (omega arith) a a.few_digits (omega (arith, a.few_places))
 
 -- every byte of the text is below 128
 sign_ascii : (n : Bool) → AllByRecursion (λ b. b < 128) (sign_text n)

@@ -37,16 +37,16 @@ fn put_fraction(out: &mut [u8], places: u8, digits: u128)
 
 impl Amount {
     // How long the shortest text is.
+    #[tactic(auto, using(crate::proofs::Shortest::length_told))]
     pub(super) fn text_len(&self) -> usize
         ensures value { result ≡ length (shortest self.now) }
         ensures bound { result ≤ 22 }
-        ensures reads_back { amount_of 20 (shortest self.now) ≡ Some (worth self.now) }
-        ensures least { (text : List ℕ) → amount_of 20 text ≡ Some (worth self.now) → length (shortest self.now) ≤ length text }
     {
         usize::from(self.negative) + digit_count(self.whole_part()) + fraction_len(self.places)
     }
 
     // Writes the shortest text to a buffer of just its length.
+    #[tactic(auto, using(crate::proofs::Shortest::length_told))]
     pub(super) fn put_text(&self, out: &mut [u8])
         requires { length out.old ≡ length (shortest self.now) }
         ensures { out.new ≡ shortest self.now }
@@ -61,6 +61,7 @@ impl Amount {
 
     // Writes the shortest text to the front of `out` and answers its length, or leaves `out` as it is
     // and answers nothing where the text does not fit.
+    #[tactic(auto, using(crate::proofs::Shortest::reads_back_20, crate::proofs::Shortest::none_shorter))]
     pub fn write(&self, out: &mut [u8]) -> Option<usize>
         ensures answer { result ≡ answered (shortest self.now) out.old }
         ensures buffer { out.new ≡ filled (shortest self.now) out.old }
