@@ -216,7 +216,7 @@ pub text_room : (a : Amount) → from_bool a.negative + (width (whole_of a) + le
 text_room a = omega (arith, length_told a, at_most_22 a)
 
 -- a dot and places, where there are places
-pub dot_length : (p n : ℕ) → 0 < p → p + 1 ≡ length (dot_text (padded p n))
+pub dot_length : (p n : ℕ) → 0 < p → length (dot_text (padded p n)) ≡ p + 1
 dot_length zero n h = absurd (omega arith)
 dot_length (suc p) n h = omega (arith, length-padded p n)
 

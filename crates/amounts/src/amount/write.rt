@@ -13,6 +13,7 @@ use texts::digits::{digit_count, write_digits};
 pub const LONGEST: usize = 22;
 
 // How long the text of a dot and the places behind it is; both fall away where there are no places.
+#[tactic(auto, using(crate::proofs::Shortest::dot_length))]
 fn fraction_len(places: u8) -> usize
     ensures value { (n : ℕ) → result ≡ length (dot_text (padded places n)) }
     ensures bound { result ≤ places + 1 }
@@ -25,6 +26,7 @@ fn fraction_len(places: u8) -> usize
 }
 
 // Writes a dot and the last digits of a number to a buffer of just their length.
+#[tactic(auto, using(crate::proofs::Shortest::dot_fills))]
 fn put_fraction(out: &mut [u8], places: u8, digits: u128)
     requires { length out.old ≡ length (dot_text (padded places digits)) }
     ensures { out.new ≡ dot_text (padded places digits) }
