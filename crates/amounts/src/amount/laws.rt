@@ -3,6 +3,7 @@ ghost use Rattle.amounts.specs.Laws.{AmountLaws};
 ghost use Rattle.amounts.specs.Worked.{WorkedExamples};
 
 // Each value has one representation, and every check gives the same answer with its sides exchanged.
+#[tactic(auto, using(crate::proofs::Laws::laws))]
 pub fn amount_laws()
     ensures { AmountLaws }
 {}
