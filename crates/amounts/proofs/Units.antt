@@ -1,7 +1,7 @@
 -- Signs, magnitudes and places: what a number of units says of them.
 use Rattle.std.proofs.Common.{◌≡◌, ℕ, ◌+◌, ◌-◌, ◌*◌, ◌/◌, ◌%◌, ◌^◌, ◌<◌, ◌≤◌, Bool, true, false, sym, refl, ap, ◌∙◌, mul_assoc, mul-div_cancel, arith}
 use native.Mathlib.Decide.{dec_lt}
-use Rattle.std.proofs.lemmas.Nat.{pow-add}
+use Rattle.std.proofs.lemmas.Nat.{mul-le, pow-add}
 use Rattle.std.proofs.lemmas.Int.{ints}
 use Rattle.texts.proofs.Powers.{ten_pos, ten_more}
 use Rattle.amounts.specs.Units.{signed}
@@ -37,3 +37,7 @@ more_places d e p q h k s =
 pub fewest_places : (d e p q : ℕ) → q ≤ 19 → (0 < q → 0 < e % 10) → d * 10 ^ (19 - p) ≡ e * 10 ^ (19 - q) → q ≤ p
 fewest_places d e p q k last s =
     elim (dec_lt p q) [ yes h ↦ absurd (omega (arith, more_places d e p q h k s, last (omega arith))) | no h ↦ omega arith ]
+
+-- what has a digit above zero is worth more than zero
+pub some_units : (d k : ℕ) → 0 < d → 0 < d * 10 ^ k
+some_units d k h = omega (arith, mul-le 1 1 d (10 ^ k) (omega arith) (omega (arith, ten_pos k)))

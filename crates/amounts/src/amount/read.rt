@@ -91,6 +91,7 @@ impl<const MOST: usize> Unsigned<MOST> {
     }
 
     // The amount with this sign.
+    #[tactic(auto, using(texts::proofs::Powers::ten_le, crate::proofs::Units::some_units))]
     fn signed(&self, negative: bool) -> Amount
         requires { MOST ≤ 20 }
         ensures value { worth result ≡ signed negative (self.now.digits * 10 ^ (19 - self.now.places)) }
