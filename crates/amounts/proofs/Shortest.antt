@@ -78,6 +78,9 @@ shortest-parts a =
     ∙ ap (λ (x : ℕ). sign_text a.negative ++ (numeral x ++ dot_text (without_end_zeros (padded 19 m)))) (whole_units a)
     ∙ ap (λ (t : List ℕ). sign_text a.negative ++ (numeral (whole_of a) ++ dot_text t)) (places_text a)
 
+pub parts_shortest : (a : Amount) → sign_text a.negative ++ (numeral (whole_of a) ++ dot_text (padded a.places a.digits)) ≡ shortest a
+parts_shortest a = sym (shortest-parts a)
+
 -- the digits behind the dot weigh what the places say
 padded_units : (d p : ℕ) → fraction_units (padded p d) ≡ d % 10 ^ p * 10 ^ (19 - p)
 padded_units d p = ap (λ (x : ℕ). x * 10 ^ (19 - length (padded p d))) (value-padded p d) ∙ ap (λ (x : ℕ). d % 10 ^ p * 10 ^ (19 - x)) (length-padded p d)

@@ -72,6 +72,7 @@ struct Unsigned<const MOST: usize> {
 
 impl<const MOST: usize> Unsigned<MOST> {
     // The decimal that a text spells.
+    #[tactic(auto, using(crate::proofs::Reading::no_dot))]
     fn read(body: &[u8]) -> Result<Self, NotAnAmount>
         requires { MOST ≤ 20 }
         ensures { option_map (λ u. u.digits * 10 ^ (19 - u.places)) (result_ok result) ≡ magnitude_of MOST body.now }

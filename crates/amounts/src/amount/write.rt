@@ -48,7 +48,7 @@ impl Amount {
     }
 
     // Writes the shortest text to a buffer of just its length.
-    #[tactic(auto, using(crate::proofs::Shortest::length_told))]
+    #[tactic(auto, using(crate::proofs::Shortest::length_told, crate::proofs::Shortest::parts_shortest, crate::proofs::Shortest::sign_fills))]
     pub(super) fn put_text(&self, out: &mut [u8])
         requires { length out.old ≡ length (shortest self.now) }
         ensures { out.new ≡ shortest self.now }

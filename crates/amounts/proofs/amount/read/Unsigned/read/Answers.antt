@@ -8,13 +8,8 @@ use Rattle.texts.proofs.Powers.{ten_le}
 use Rattle.amounts.specs.Decimal.{magnitude_of, behind}
 use Rattle.amounts.specs.Spelling.{dot_text}
 use Rattle.amounts.proofs.Fraction.{joined_last}
-use Rattle.amounts.proofs.Reading.{no_dot, no_digits, read_worth}
+use Rattle.amounts.proofs.Reading.{no_digits, read_worth}
 use Rattle.amounts.proofs.amount.read.Unsigned.read.Goals as goal
-
-pub returns-in_err-fraction : goal.returns-in_err-fraction
-returns-in_err-fraction g c =
-    let n : magnitude_of g.row.MOST c.args.body.now ≡ None = no_dot g.row.MOST c.args.body.now (grind (arith, c.in_err-fraction.ensures)) in
-    search rules
 
 pub returns-in_err-kept : goal.returns-in_err-kept
 returns-in_err-kept g c =
