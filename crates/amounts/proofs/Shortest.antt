@@ -62,7 +62,7 @@ places_text a =
     ∙ end_zeros (padded p a.digits) (19 - p)
     ∙ no_end_zero p a.digits a.no_zero_at_end
 
-whole_units : (a : Amount) → magnitude a / units_per_one ≡ whole_of a
+pub whole_units : (a : Amount) → magnitude a / units_per_one ≡ whole_of a
 whole_units a =
     ap (λ (m : ℕ). m / units_per_one) (sym (split_value a.digits a.places a.few_places))
     ∙ div-mul-add (whole_of a) units_per_one (a.digits % 10 ^ a.places * 10 ^ (19 - a.places)) (split_fraction a.digits a.places a.few_places)

@@ -14,10 +14,11 @@ impl Amount {
     }
 
     // The whole number that is left when the fraction is cut off, toward zero.
+    #[tactic(auto, using(crate::proofs::Shortest::whole_units))]
     fn whole_number(&self) -> i128
         ensures { result ≡ cut (worth self.now) }
     {
-        let whole = self.parts().whole as i128;
+        let whole = self.whole_part() as i128;
         if self.negative { -whole } else { whole }
     }
 

@@ -21,7 +21,7 @@ pub(super) fn power_of_ten(n: u8) -> u128
 // A whole part, and the units that a fraction makes. The derived order is that of the values.
 #[derive(Clone, Copy, PartialEq, PartialOrd)]
 pub(super) struct Parts {
-    pub(super) whole: u128,
+    whole: u128,
     fraction: u128,
     ghost below_one: { fraction < units_per_one },
 }

@@ -62,15 +62,16 @@ fn joined(whole: &Digits, fraction: &Digits) -> u128
 
 // An unsigned decimal of at most MOST digits, worth `digits` / 10^`places`, with no zero at the end of its places.
 #[derive(Clone, Copy)]
-struct Unsigned<const MOST: usize> {
+struct Magnitude<const MOST: usize> {
     digits: u128,
     places: u8,
+    ghost limit: { MOST ≤ 20 },
     ghost few_digits: { digits < 10 ^ MOST },
     ghost few_places: { places < MOST },
     ghost no_zero_at_end: { 0 < places → 0 < digits % 10 },
 }
 
-impl<const MOST: usize> Unsigned<MOST> {
+impl<const MOST: usize> Magnitude<MOST> {
     // The decimal that a text spells.
     #[tactic(auto, using(crate::proofs::Reading::no_dot))]
     fn read(body: &[u8]) -> Result<Self, NotAnAmount>
@@ -85,7 +86,7 @@ impl<const MOST: usize> Unsigned<MOST> {
         }
         // the zeros that fall away are digits
         let kept = Digits::new(without_zeros(fraction)).ok_or(NotAnAmount)?;
-        Ok(Unsigned {
+        Ok(Magnitude {
             digits: joined(&whole, &kept),
             places: kept.bytes().len() as u8,
         })
@@ -94,7 +95,6 @@ impl<const MOST: usize> Unsigned<MOST> {
     // The amount with this sign.
     #[tactic(auto, using(texts::proofs::Powers::ten_le, crate::proofs::Units::some_units))]
     fn signed(&self, negative: bool) -> Amount
-        requires { MOST ≤ 20 }
         ensures value { worth result ≡ signed negative (self.now.digits * 10 ^ (19 - self.now.places)) }
         ensures few_digits { result.digits < 10 ^ MOST }
         ensures few_places { result.places < MOST }
@@ -115,8 +115,8 @@ pub(super) fn read_decimal<const MOST: usize>(text: &[u8]) -> Result<Amount, Not
     ensures rule { IfOk result (λ a. (a.digits < 10 ^ MOST) × (a.places < MOST)) }
 {
     let (negative, body) = split_sign(text);
-    let decimal = Unsigned::<MOST>::read(body)?;
-    Ok(decimal.signed(negative))
+    let magnitude = Magnitude::<MOST>::read(body)?;
+    Ok(magnitude.signed(negative))
 }
 
 impl Amount {

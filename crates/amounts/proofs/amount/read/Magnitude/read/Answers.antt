@@ -9,7 +9,7 @@ use Rattle.amounts.specs.Decimal.{magnitude_of, behind}
 use Rattle.amounts.specs.Spelling.{dot_text}
 use Rattle.amounts.proofs.Fraction.{joined_last}
 use Rattle.amounts.proofs.Reading.{no_digits, read_worth}
-use Rattle.amounts.proofs.amount.read.Unsigned.read.Goals as goal
+use Rattle.amounts.proofs.amount.read.Magnitude.read.Goals as goal
 
 pub returns-in_err-kept : goal.returns-in_err-kept
 returns-in_err-kept g c =
@@ -26,6 +26,7 @@ invariant_of-result g c =
     let few : length c.leading.result.0.bytes.now + length kept ≤ g.row.MOST =
     omega (arith, ap length k, ap length c.without_zeros.ensures.zeros, length-append c.without_zeros.result.now (replicate (length c.in_ok-fraction.fraction.now - length c.without_zeros.result.now) 48), ap length c.bytes-count.ensures.text) in
     record {
+      limit = c.requires;
       few_digits = omega (arith, c.joined.ensures.bound, ten_le (length c.leading.result.0.bytes.now + length kept) g.row.MOST few);
       few_places = omega (arith, few, ap length c.bytes.ensures.text, ap length c.bytes-count.ensures.text);
       no_zero_at_end = λ h. let l = joined_last (digits_value 10 c.leading.result.0.bytes.now) kept c.in_ok-kept.kept.all last (omega (arith, ap length c.bytes.ensures.text)) in rw (← c.joined.ensures.value) at l;
