@@ -1,5 +1,5 @@
 // Reads an amount from text.
-ghost use Rattle.std.specs.Prelude.{◌≡◌, ◌≢◌, ◌+◌, ◌-◌, ◌*◌, ◌%◌, ◌^◌, ◌<◌, ◌≤◌, ℕ, List, ◌++◌, length, replicate, slice_index, IfOk, MatchResult};
+ghost use Rattle.std.specs.Prelude.{◌≡◌, ◌≢◌, ◌+◌, ◌-◌, ◌*◌, ◌%◌, ◌^◌, ◌<◌, ◌≤◌, ℕ, List, ◌++◌, length, replicate, slice_index, Some, codes, IfOk, MatchResult};
 ghost use Rattle.std.specs.Option.{option_map};
 ghost use Rattle.std.specs.Str.Parse.{digits_value};
 ghost use Rattle.std.specs.Result.{result_ok};
@@ -10,11 +10,23 @@ ghost use Rattle.amounts.specs.Units.{signed};
 
 use super::Amount;
 use super::parts::power_of_ten;
+use std::error::Error;
+use std::fmt;
 use texts::digits::Digits;
 
 // The text spells no amount.
 #[derive(Clone, Copy, Debug, PartialEq, Eq)]
 pub struct NotAnAmount;
+
+impl fmt::Display for NotAnAmount {
+    ghost output = { λ _. Some (codes "not an amount") };
+
+    fn fmt<W: fmt::Write>(&self, f: &mut fmt::Formatter<W>) -> fmt::Result {
+        f.write_str("not an amount")
+    }
+}
+
+impl Error for NotAnAmount {}
 
 // Whether a '-' stands in front, and what follows it.
 fn split_sign(text: &[u8]) -> (bool, &[u8])
