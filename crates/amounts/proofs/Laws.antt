@@ -13,7 +13,7 @@ use Rattle.amounts.specs.Checks.{cut, distance, same}
 use Rattle.amounts.specs.Laws.{AmountLaws}
 use Rattle.amounts.specs.Units.{signed}
 use Rattle.amounts.proofs.Shortest.{reads_back}
-use Rattle.amounts.proofs.Units.{cancel_right, fewest_places, same_magnitude, same_sign}
+use Rattle.amounts.proofs.Units.{cancel_right, fewest_places, same_magnitude, same_sign, some_units}
 
 one_form : (a b : Amount) → worth a ≡ worth b → (a.negative ≡ b.negative) × (a.digits ≡ b.digits) × (a.places ≡ b.places)
 one_form a b e =
@@ -23,7 +23,7 @@ one_form a b e =
     let places : a.places ≡ b.places = omega arith in
     let s : a.digits * 10 ^ (19 - b.places) ≡ b.digits * 10 ^ (19 - b.places) =
     ap (λ (x : ℕ). a.digits * 10 ^ (19 - x)) (sym places) ∙ m in (
-      same_sign a.negative b.negative (magnitude a) (magnitude b) a.no_minus_zero b.no_minus_zero e,
+      same_sign a.negative b.negative (magnitude a) (magnitude b) (some_units a) (some_units b) e,
       cancel_right a.digits b.digits (10 ^ (19 - b.places)) (ten_pos (19 - b.places)) s,
       places,
     )

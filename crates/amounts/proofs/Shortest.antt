@@ -24,7 +24,7 @@ use Rattle.amounts.specs.Units.{units_per_one, signed}
 use Rattle.amounts.proofs.Fraction.{joined_units}
 use Rattle.amounts.proofs.Parts.{fraction_below, split_fraction, split_value, width_places}
 use Rattle.amounts.proofs.Spelling.{read_spelled, spelled_read}
-use Rattle.amounts.proofs.Units.{fewest_places, same_magnitude}
+use Rattle.amounts.proofs.Units.{fewest_places, same_magnitude, some_units}
 
 -- the units' sign and size are those of the amount
 nat_abs-signed : (s : Bool) (m : ℕ) → nat_abs (signed s m) ≡ m
@@ -73,7 +73,7 @@ unfolding shortest_text
 shortest-parts a =
     let m : ℕ = magnitude a in
     let abs : nat_abs (worth a) ≡ m = nat_abs-signed a.negative m in
-    ap (λ (s : Bool). sign_text s ++ (numeral (nat_abs (worth a) / units_per_one) ++ dot_text (without_end_zeros (padded 19 (nat_abs (worth a)))))) (negative_signed a.negative m a.no_minus_zero)
+    ap (λ (s : Bool). sign_text s ++ (numeral (nat_abs (worth a) / units_per_one) ++ dot_text (without_end_zeros (padded 19 (nat_abs (worth a)))))) (negative_signed a.negative m (some_units a))
     ∙ ap (λ (x : ℕ). sign_text a.negative ++ (numeral (x / units_per_one) ++ dot_text (without_end_zeros (padded 19 x)))) abs
     ∙ ap (λ (x : ℕ). sign_text a.negative ++ (numeral x ++ dot_text (without_end_zeros (padded 19 m)))) (whole_units a)
     ∙ ap (λ (t : List ℕ). sign_text a.negative ++ (numeral (whole_of a) ++ dot_text t)) (places_text a)
@@ -193,7 +193,7 @@ module _ (a : Amount) (text : List ℕ) (n : Bool) (w f : List ℕ) (s : Spelled
         length-spelled n w (dot_text f),
         whole_needed,
         dot_length_le (padded a.places a.digits) f (omega (arith, length-padded a.places a.digits, places_needed)),
-        sign_needed a.negative n (magnitude a) (digits_value 10 (w ++ f) * 10 ^ (19 - length f)) a.no_minus_zero e,
+        sign_needed a.negative n (magnitude a) (digits_value 10 (w ++ f) * 10 ^ (19 - length f)) (some_units a) e,
       )
 
 -- no text that means the same is shorter

@@ -4,6 +4,8 @@ use native.Mathlib.Decide.{dec_lt}
 use Rattle.std.proofs.lemmas.Nat.{mul-le, pow-add}
 use Rattle.std.proofs.lemmas.Int.{ints}
 use Rattle.texts.proofs.Powers.{ten_pos, ten_more}
+use Rattle.amounts.specs.declared.amount.Amount.{Amount}
+use Rattle.amounts.specs.Amounts.{magnitude}
 use Rattle.amounts.specs.Units.{signed}
 
 pub same_magnitude : (s t : Bool) (m n : ℕ) → signed s m ≡ signed t n → m ≡ n
@@ -38,6 +40,6 @@ pub fewest_places : (d e p q : ℕ) → q ≤ 19 → (0 < q → 0 < e % 10) → 
 fewest_places d e p q k last s =
     elim (dec_lt p q) [ yes h ↦ absurd (omega (arith, more_places d e p q h k s, last (omega arith))) | no h ↦ omega arith ]
 
--- what has a digit above zero is worth more than zero
-pub some_units : (d k : ℕ) → 0 < d → 0 < d * 10 ^ k
-some_units d k h = omega (arith, mul-le 1 1 d (10 ^ k) (omega arith) (omega (arith, ten_pos k)))
+-- what is below zero is not worth nothing
+pub some_units : (a : Amount) → a.negative ≡ true → 0 < magnitude a
+some_units a e = omega (arith, mul-le 1 1 a.digits (10 ^ (19 - a.places)) (a.no_minus_zero e) (omega (arith, ten_pos (19 - a.places))))

@@ -1,5 +1,5 @@
 // A decimal amount, kept exactly.
-ghost use Rattle.std.specs.Prelude.{◌≡◌, ◌-◌, ◌*◌, ◌%◌, ◌^◌, ◌<◌, ◌≤◌, true};
+ghost use Rattle.std.specs.Prelude.{◌≡◌, ◌%◌, ◌^◌, ◌<◌, ◌≤◌, true};
 
 pub mod checks;
 pub mod display;
@@ -19,5 +19,5 @@ pub struct Amount {
     ghost few_digits: { digits < 10 ^ 20 },
     ghost few_places: { places ≤ 19 },
     ghost no_zero_at_end: { (0 < places → 0 < digits % 10) },
-    ghost no_minus_zero: { (negative ≡ true → 0 < digits * 10 ^ (19 - places)) },
+    ghost no_minus_zero: { (negative ≡ true → 0 < digits) },
 }

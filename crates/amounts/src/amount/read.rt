@@ -105,7 +105,7 @@ impl<const MOST: usize> Magnitude<MOST> {
     }
 
     // The amount with this sign.
-    #[tactic(auto, using(texts::proofs::Powers::ten_le, crate::proofs::Units::some_units))]
+    #[tactic(auto, using(texts::proofs::Powers::ten_le))]
     fn signed(&self, negative: bool) -> Amount
         ensures value { worth result ≡ signed negative (self.now.digits * 10 ^ (19 - self.now.places)) }
         ensures few_digits { result.digits < 10 ^ MOST }
