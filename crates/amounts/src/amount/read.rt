@@ -29,6 +29,7 @@ impl fmt::Display for NotAnAmount {
 impl Error for NotAnAmount {}
 
 // Whether a '-' stands in front, and what follows it.
+#[tactic(auto, using(std::proofs::lemmas::List::take_rest, std::proofs::lemmas::List::get_or_past))]
 fn split_sign(text: &[u8]) -> (bool, &[u8])
     ensures sign { result.0 ≡ minus text.now }
     ensures rest { result.1.now ≡ unsigned text.now }
