@@ -68,7 +68,7 @@ whole_units a =
     ∙ div-mul-add (whole_of a) units_per_one (a.digits % 10 ^ a.places * 10 ^ (19 - a.places)) (split_fraction a.digits a.places a.few_places)
 
 -- the shortest text, by the parts that an amount keeps
-pub shortest-parts : (a : Amount) → shortest a ≡ sign_text a.negative ++ (padded (width (whole_of a)) (whole_of a) ++ dot_text (padded a.places a.digits))
+shortest-parts : (a : Amount) → shortest a ≡ sign_text a.negative ++ (padded (width (whole_of a)) (whole_of a) ++ dot_text (padded a.places a.digits))
 unfolding shortest_text
 shortest-parts a =
     let m : ℕ = magnitude a in
@@ -85,7 +85,7 @@ parts_shortest a = sym (shortest-parts a)
 padded_units : (d p : ℕ) → fraction_units (padded p d) ≡ d % 10 ^ p * 10 ^ (19 - p)
 padded_units d p = ap (λ (x : ℕ). x * 10 ^ (19 - length (padded p d))) (value-padded p d) ∙ ap (λ (x : ℕ). d % 10 ^ p * 10 ^ (19 - x)) (length-padded p d)
 
-pub shortest-spelled : (most : ℕ) (a : Amount) → a.digits < 10 ^ most → a.places < most → Spelled most (shortest a) a.negative (padded (width (whole_of a)) (whole_of a)) (padded a.places a.digits)
+shortest-spelled : (most : ℕ) (a : Amount) → a.digits < 10 ^ most → a.places < most → Spelled most (shortest a) a.negative (padded (width (whole_of a)) (whole_of a)) (padded a.places a.digits)
 shortest-spelled most a few places = record {
   spelt = shortest-parts a;
   whole_digits = all_padded (width (whole_of a)) (whole_of a);

@@ -5,7 +5,7 @@ ghost use Rattle.amounts.specs.Units.{units_per_one};
 
 use super::Amount;
 
-// How many units make one.
+// How many units make one, written out since a constant's value takes no call.
 const ONE: u128 = 10_000_000_000_000_000_000;
 
 // 10^n.

@@ -28,7 +28,7 @@ impl fmt::Display for NotAnAmount {
 
 impl Error for NotAnAmount {}
 
-// Whether a '-' stands in front, and what follows it.
+// Whether a '-' stands in front, and what follows it: both are there in any text, so this is no Option.
 #[tactic(auto, using(std::proofs::lemmas::List::take_rest, std::proofs::lemmas::List::get_or_past))]
 fn split_sign(text: &[u8]) -> (bool, &[u8])
     ensures sign { result.0 ≡ minus text.now }
@@ -133,7 +133,7 @@ pub(super) fn read_decimal<const MOST: usize>(text: &[u8]) -> Result<Amount, Not
 }
 
 impl Amount {
-    // The amount that a text spells with at most twenty digits.
+    // The amount that a text spells with at most twenty digits. A `TryFrom` would be this line again.
     pub fn read(text: &[u8]) -> Result<Amount, NotAnAmount>
         ensures value { option_map worth (result_ok result) ≡ amount_of 20 text.now }
         ensures plain { Reads 20 text.now (option_map worth (result_ok result)) }

@@ -62,7 +62,7 @@ impl Amount {
     }
 
     // Writes the shortest text to the front of `out` and answers its length, or leaves `out` as it is
-    // and answers nothing where the text does not fit.
+    // and answers nothing where the text does not fit. The caller lends the room: there is no heap here.
     #[tactic(auto, using(crate::proofs::Shortest::reads_back_20, crate::proofs::Shortest::none_shorter))]
     pub fn write(&self, out: &mut [u8]) -> Option<usize>
         ensures answer { result ≡ answered (shortest self.now) out.old }

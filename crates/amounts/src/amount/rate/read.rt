@@ -20,7 +20,7 @@ impl ExchangeRate {
         Ok(ExchangeRate { amount })
     }
 
-    // The rate as an amount, to be compared and written.
+    // The rate as an amount, to be compared and written. A `From` would be this line again.
     pub fn amount(&self) -> Amount
         ensures { result ≡ self.now.amount }
     {
