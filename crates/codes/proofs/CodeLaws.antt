@@ -1,16 +1,16 @@
 -- The laws of codes.
-use Rattle.std.proofs.Common.{◌≡◌, ℕ, ◌-◌, Bool, true, cond, ◌&&◌, ltb, leb, List, [], ◌∷◌, ◌++◌, length, get_or, Some, None, Ordering, Less, Equal, Greater, sym, refl, ap, ◌∙◌, true≢false, arith}
-use Rattle.std.specs.Ordering.{is_eq, ordering_then, nat_cmp}
+use Rattle.std.proofs.Common.{◌≡◌, ℕ, ◌-◌, Bool, true, cond, ◌&&◌, ltb, leb, List, [], ◌∷◌, ◌++◌, length, get_or, Some, None, Ordering, Less, sym, refl, subst, Decides, ap, ◌∙◌, true≢false}
+use Rattle.std.specs.Ordering.{ordering_then}
 use Rattle.std.specs.List.{list_all, AllByRecursion}
-use Rattle.std.proofs.lemmas.Cmp.{nat_list_cmp_total}
+use Rattle.std.proofs.lemmas.Cmp.{nat_cmp_total, nat_list_cmp_total, tied_itself}
+use Rattle.std.proofs.lemmas.Map.Text.{is_eq-slice_cmp}
+use Rattle.std.proofs.lemmas.Slice.Eq.{bytes_eq-Decides}
 use Rattle.std.proofs.lemmas.Bool.{and_from, and_parts, le-leb, leb-true, lt-ltb, ltb-true}
-use Rattle.std.proofs.lemmas.Bool.Decides.{nat_tests}
 use Rattle.codes.specs.Alphabets.{Letters}
 use Rattle.codes.specs.Codes.{text_of, text_order}
 use Rattle.codes.specs.Laws.{CodeForms, CodeLaws, IsCode}
 use Rattle.codes.specs.Rules.{code_of, ends_well, keeps, spelled}
-use Rattle.codes.proofs.Filled.{non_zero_lem}
-use Rattle.codes.proofs.Ordered.{one_place, same_byte, same_text}
+use Rattle.codes.proofs.Ordered.{one_place}
 
 -- ---- the rule
 
@@ -47,25 +47,9 @@ to_test alphabet least most text h =
 
 -- ---- the order
 
-equal_byte : (x y : ℕ) → is_eq (nat_cmp x y) ≡ true → x ≡ y
-equal_byte x y h = grind (arith, nat_tests)
-
-both_equal : (o p : Ordering) → is_eq (ordering_then o p) ≡ true → (is_eq o ≡ true) × (is_eq p ≡ true)
-both_equal Less p h = absurd (true≢false (sym h))
-both_equal Equal p h = (refl, h)
-both_equal Greater p h = absurd (true≢false (sym h))
-
-same_from : (s t : List ℕ) → is_eq (text_order s t) ≡ true → s ≡ t
-same_from [] [] h = refl
-same_from [] (y ∷ t) h = absurd (true≢false (sym h))
-same_from (x ∷ s) [] h = absurd (true≢false (sym h))
-same_from (x ∷ s) (y ∷ t) h =
-    let parts = both_equal (nat_cmp x y) (text_order s t) h in
-    λ i. equal_byte x y parts.0 i ∷ same_from s t parts.1 i
-
 before_more : (s t : List ℕ) (b : ℕ) → text_order s (s ++ (b ∷ t)) ≡ Less
 before_more [] t b = refl
-before_more (x ∷ s) t b = ap (λ (o : Ordering). ordering_then o (text_order s (s ++ (b ∷ t)))) (same_byte x) ∙ before_more s t b
+before_more (x ∷ s) t b = ap (λ (o : Ordering). ordering_then o (text_order s (s ++ (b ∷ t)))) (tied_itself nat_cmp_total x) ∙ before_more s t b
 
 reads : (alphabet : Letters) (least most : ℕ) (text : List ℕ) → keeps alphabet least most text ≡ true → code_of alphabet least most text ≡ Some text
 reads alphabet least most text h = ap (λ (b : Bool). cond b (Some text) None) h
@@ -73,10 +57,10 @@ reads alphabet least most text h = ap (λ (b : Bool). cond b (Some text) None) h
 pub laws : CodeLaws
 laws = record {
   plain = λ alphabet least most text. (from_test alphabet least most text, to_test alphabet least most text);
-  no_zero = λ alphabet h. true≢false (sym (non_zero_lem alphabet 0 h));
+  no_zero = λ alphabet h. true≢false (sym h ∙ alphabet.no_zero);
   flip = nat_list_cmp_total.antisymm;
   transitive = nat_list_cmp_total.trans;
-  equal = λ s t. (same_from s t, λ e. ap (λ (x : List ℕ). is_eq (text_order x t)) e ∙ ap is_eq (same_text t));
+  equal = λ s t. subst (λ b. Decides b (s ≡ t)) (sym (is_eq-slice_cmp s t)) (bytes_eq-Decides s t);
   beginning = before_more;
 }
 

@@ -1,10 +1,11 @@
 -- Texts in places that are zero behind them.
-use Rattle.std.proofs.Common.{◌≡◌, ℕ, zero, suc, ◌+◌, ◌-◌, ◌≤◌, Bool, true, false, cond, List, [], ◌∷◌, ◌++◌, length, take, replicate, sym, refl, ap, ◌∙◌, one-add, true≢false, arith}
+use Rattle.std.proofs.Common.{◌≡◌, ℕ, zero, suc, ◌+◌, ◌-◌, ◌≤◌, Bool, true, false, cond, List, [], ◌∷◌, ◌++◌, length, take, drop, replicate, Some, None, sym, refl, ap, ◌∙◌, one-add, true≢false, arith}
 use Rattle.std.specs.List.{list_all, prefix_len}
+use Rattle.std.proofs.lemmas.List.{drop-replicate}
 use Rattle.std.proofs.lemmas.Bool.{and_parts, leb-true}
 use Rattle.std.proofs.lemmas.Bool.Decides.{nat_tests}
 use Rattle.codes.specs.Alphabets.{Letters}
-use Rattle.codes.specs.Rules.{ends_well, keeps, non_zero, spelled, text_in, ZeroFilled}
+use Rattle.codes.specs.Rules.{code_of, ends_well, keeps, non_zero, spelled, text_in, ZeroFilled}
 use Rattle.std.specs.Prelude.{◌&&◌, nat_le}
 
 pub text_cons : (b : Bool) (n x : ℕ) (xs : List ℕ) → take (cond b (1 + n) 0) (x ∷ xs) ≡ cond b (x ∷ take n xs) []
@@ -33,8 +34,19 @@ parts_of_rule alphabet least most text h =
     let two = and_parts (nat_le (length text) most) (spelled alphabet text && ends_well alphabet text) one.1 in
     ((and_parts (spelled alphabet text) (ends_well alphabet text) two.1).0, leb-true (length text) most two.0)
 
--- the place of a text that keeps a rule
-pub filled : (alphabet : Letters) (least most : ℕ) (text bytes : List ℕ) → keeps alphabet least most text ≡ true → bytes ≡ text ++ replicate (most - length text) 0 → (text_in bytes ≡ text) × ZeroFilled most bytes
-filled alphabet least most text bytes h e =
-    let same : text_in bytes ≡ text = ap text_in e ∙ text_in_lem alphabet text (most - length text) (parts_of_rule alphabet least most text h).0 in
-    (same, e ∙ ap (λ (t : List ℕ). t ++ replicate (most - length t) 0) (sym same))
+-- the place into which a text that keeps a rule was copied
+module _ (alphabet : Letters) (least most : ℕ) (text front : List ℕ) (kept : keeps alphabet least most text ≡ true) (copied : front ≡ text) where
+  filled_place : front ++ drop (length text) (replicate most 0) ≡ text ++ replicate (most - length text) 0
+  filled_place = ap (λ (t : List ℕ). t ++ drop (length text) (replicate most 0)) copied ∙ ap (λ (t : List ℕ). text ++ t) (drop-replicate (length text) most 0)
+
+  pub placed_text : text_in (front ++ drop (length text) (replicate most 0)) ≡ text
+  placed_text = ap text_in filled_place ∙ text_in_lem alphabet text (most - length text) (parts_of_rule alphabet least most text kept).0
+
+  pub placed_rule : keeps alphabet least most (text_in (front ++ drop (length text) (replicate most 0))) ≡ true
+  placed_rule = ap (keeps alphabet least most) placed_text ∙ kept
+
+  pub placed_filled : ZeroFilled most (front ++ drop (length text) (replicate most 0))
+  placed_filled = filled_place ∙ ap (λ (t : List ℕ). t ++ replicate (most - length t) 0) (sym placed_text)
+
+  pub placed_code : Some (text_in (front ++ drop (length text) (replicate most 0))) ≡ code_of alphabet least most text
+  placed_code = ap Some placed_text ∙ sym (ap (λ (b : Bool). cond b (Some text) None) kept)

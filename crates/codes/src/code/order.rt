@@ -44,6 +44,7 @@ impl<A: Alphabet, const LEAST: usize, const MOST: usize> Ord for Code<A, LEAST, 
 
     ghost matches_eq = { Prim.search (comparing, rules) };
 
+    #[tactic(auto, using(crate::proofs::Ordered::codes_in_order))]
     fn cmp(&self, other: &Self) -> Ordering {
         self.bytes.cmp(&other.bytes)
     }

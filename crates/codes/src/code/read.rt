@@ -54,6 +54,7 @@ impl<A: Alphabet, const LEAST: usize, const MOST: usize> Code<A, LEAST, MOST> {
     }
 
     // The code of this text, by the name that reading has at every value of the book.
+    #[tactic(auto, using(crate::proofs::Filled::placed_code, crate::proofs::Filled::placed_rule, crate::proofs::Filled::placed_filled))]
     pub fn read(text: &[u8]) -> Result<Self, NotACode>
         ensures { option_map text_of (result_ok result) ≡ code_of A.letters LEAST MOST text.now }
     {
