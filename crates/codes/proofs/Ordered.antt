@@ -1,20 +1,18 @@
 -- Texts and the places that hold them sort alike.
-use Rattle.std.proofs.Common.{◌≡◌, ℕ, zero, suc, ◌+◌, ◌-◌, ◌≤◌, Bool, true, false, cond, List, [], ◌∷◌, ◌++◌, length, take, replicate, Decides, Ordering, Less, Equal, Greater, sym, refl, ap, ◌∙◌, subst, one-add, arith}
+use Rattle.std.proofs.Common.{◌≡◌, ℕ, zero, suc, ◌+◌, ◌-◌, ◌≤◌, Bool, true, false, cond, List, [], ◌∷◌, ◌++◌, length, replicate, Ordering, Less, Greater, sym, refl, ap, ◌∙◌, subst, arith}
 use Rattle.std.specs.Ordering.{ordering_then, nat_cmp}
 use Rattle.std.specs.List.{prefix_len, AllByRecursion}
 use Rattle.std.proofs.lemmas.Bool.Decides.{nat_tests}
-use Rattle.std.specs.Str.{bytes_eq}
-use Rattle.std.specs.Cmp.{both_ways}
-use Rattle.std.proofs.lemmas.Slice.Eq.{bytes_eq-Decides}
-use Rattle.codes.specs.Codes.{text_order}
-use Rattle.codes.specs.Rules.{non_zero, text_in, ZeroFilled}
+use Rattle.std.proofs.lemmas.Cmp.{nat_list_cmp_total, tied_itself}
+use Rattle.codes.specs.Alphabets.{Letters}
+use Rattle.codes.specs.Codes.{text_of, text_order}
+use Rattle.codes.specs.declared.code.Code.{Code}
+use Rattle.std.specs.Coded.{Coded-set, coded_ℕ, coded_bool, coded_list}
+use Rattle.codes.specs.Rules.{keeps, non_zero, text_in, ZeroFilled}
+use Rattle.codes.proofs.Filled.{parts_of_rule, text_cons}
 
 abbrev NoZero : List ℕ → Type 0
 NoZero text = AllByRecursion (λ b. non_zero b ≡ true) text
-
-text_cons : (b : Bool) (n x : ℕ) (xs : List ℕ) → take (cond b (1 + n) 0) (x ∷ xs) ≡ cond b (x ∷ take n xs) []
-text_cons true n x xs = ap (λ (k : ℕ). take k (x ∷ xs)) (one-add n)
-text_cons false n x xs = refl
 
 kept : (b : Bool) (x : ℕ) (xs : List ℕ) → non_zero x ≡ b → NoZero xs → NoZero (cond b (x ∷ xs) [])
 kept true x xs e h = (e, h)
@@ -23,13 +21,6 @@ kept false x xs e h = tt
 pub no_zero : (bytes : List ℕ) → NoZero (text_in bytes)
 no_zero [] = tt
 no_zero (x ∷ xs) = subst NoZero (sym (text_cons (non_zero x) (prefix_len non_zero xs) x xs)) (kept (non_zero x) x (text_in xs) refl (no_zero xs))
-
-pub same_byte : (x : ℕ) → nat_cmp x x ≡ Equal
-same_byte x = grind (arith, nat_tests)
-
-pub same_text : (xs : List ℕ) → text_order xs xs ≡ Equal
-same_text [] = refl
-same_text (x ∷ xs) = ap (λ (o : Ordering). ordering_then o (text_order xs xs)) (same_byte x) ∙ same_text xs
 
 zero_first : (y : ℕ) → non_zero y ≡ true → nat_cmp 0 y ≡ Less
 zero_first y h = grind (arith, nat_tests)
@@ -40,7 +31,7 @@ zero_last x h = grind (arith, nat_tests)
 order_filled : (s t : List ℕ) (m n : ℕ) → NoZero s → NoZero t → length s + m ≡ length t + n → text_order (s ++ replicate m 0) (t ++ replicate n 0) ≡ text_order s t
 order_filled [] [] m n p q e =
     let i : m ≡ n = omega arith in
-    ap (λ (k : ℕ). text_order (replicate k 0) (replicate n 0)) i ∙ same_text (replicate n 0)
+    ap (λ (k : ℕ). text_order (replicate k 0) (replicate n 0)) i ∙ tied_itself nat_list_cmp_total (replicate n 0)
 order_filled [] (y ∷ ys) zero n p q e = absurd (omega arith)
 order_filled [] (y ∷ ys) (suc m) n p q e = ap (λ (o : Ordering). ordering_then o (text_order (replicate m 0) (ys ++ replicate n 0))) (zero_first y q.0)
 order_filled (x ∷ xs) [] m zero p q e = absurd (omega arith)
@@ -62,8 +53,12 @@ order_of_places most a b p q f g =
 pub one_place : (most : ℕ) (a b : List ℕ) → ZeroFilled most a → ZeroFilled most b → text_in a ≡ text_in b → a ≡ b
 one_place most a b p q e = p ∙ ap (λ (t : List ℕ). t ++ replicate (most - length t) 0) e ∙ sym q
 
-pub same_places : (most : ℕ) (a b : List ℕ) → ZeroFilled most a → ZeroFilled most b → bytes_eq a b ≡ bytes_eq (text_in a) (text_in b)
-same_places most a b p q =
-    let whole : Decides (bytes_eq a b) (a ≡ b) = bytes_eq-Decides a b in
-    let texts : Decides (bytes_eq (text_in a) (text_in b)) (text_in a ≡ text_in b) = bytes_eq-Decides (text_in a) (text_in b) in
-    both_ways _ _ (λ t. texts.1 (ap text_in (whole.0 t))) (λ t. whole.1 (one_place most a b p q (texts.0 t)))
+-- what `cmp` answers on the places of two codes
+pub codes_in_order : (alphabet : Letters) (least most : ℕ) (a b : List ℕ) (o : Ordering) → keeps alphabet least most (text_in a) ≡ true → keeps alphabet least most (text_in b) ≡ true → ZeroFilled most a → ZeroFilled most b → o ≡ text_order a b → o ≡ text_order (text_in a) (text_in b)
+codes_in_order alphabet least most a b o f g p q e =
+    e ∙ order_of_places most a b p q (parts_of_rule alphabet least most (text_in a) f).1 (parts_of_rule alphabet least most (text_in b) g).1
+
+-- a code is its bytes: what is known of them has one proof
+pub same_code : {A : _} {least most : _} {m : _} (c : Code A least most m) (rule : keeps m.letters least most (text_of c) ≡ true) (filled : ZeroFilled most c.bytes) → record { bytes = c.bytes; alphabet = c.alphabet; rule = rule; filled = filled } ≡ c
+same_code c rule filled =
+    λ i. record { bytes = c.bytes; alphabet = c.alphabet; rule = Coded-set coded_bool _ _ rule c.rule i; filled = Coded-set (coded_list coded_ℕ) _ _ filled c.filled i }

@@ -1,6 +1,6 @@
 -- The letters that each one-letter field may have, and the letter of each case.
-use Rattle.std.specs.Prelude.{ℕ, List, codes, slice_index}
-use Prim.Native.String.{String}
+use Rattle.std.specs.Prelude.{ℕ, List, codes}
+use Rattle.std.specs.Str.{byte}
 use Rattle.fields.specs.declared.field.report.PartyKind.{PartyKind}
 use Rattle.fields.specs.declared.field.report.PartyKind.TheVariants.{Lei, Client}
 use Rattle.fields.specs.declared.field.report.Action.{Action}
@@ -17,10 +17,6 @@ use Rattle.fields.specs.declared.field.detail.Compression.{Compression as Compre
 use Rattle.fields.specs.declared.field.detail.Compression.TheVariants.{Compressed, Uncompressed}
 use Rattle.fields.specs.declared.field.detail.PriceNotation.{PriceNotation}
 use Rattle.fields.specs.declared.field.detail.PriceNotation.TheVariants.{Units, Percentage, Yield}
-
--- the byte of a letter
-abbrev pub byte : String → ℕ
-byte s = slice_index (codes s) 0
 
 abbrev pub party_kind_letters : List ℕ
 party_kind_letters = codes "LC"

@@ -1,5 +1,5 @@
 // Fields of one letter, read and given back by one rule.
-ghost use Rattle.std.specs.Prelude.{◌≡◌, ℕ, true, List};
+ghost use Rattle.std.specs.Prelude.{◌≡◌, ℕ, true, List, map};
 ghost use Rattle.std.specs.Option.{option_map};
 ghost use Rattle.std.specs.Result.{result_ok};
 ghost use Rattle.codes.specs.Alphabets.{one_of};
@@ -8,24 +8,34 @@ ghost use Rattle.fields.specs.Letters.{letter_among, letter_in};
 use codes::code::read::NotACode;
 
 // A field whose cases are told by a letter.
-pub trait Letter: Sized {
+pub trait Letter: Copy + 'static {
     // The letters of the field.
     ghost letters: { List ℕ };
 
     // The letter of each case.
     ghost told: { Self → ℕ };
 
-    // The case of a letter.
-    fn of_letter(byte: u8) -> Option<Self>
-        ensures { option_map told result ≡ letter_among letters byte };
+    // The cases, in the order of the letters.
+    fn cases() -> &'static [Self]
+        ensures { map told result.now ≡ letters };
 
-    // The letter of this case.
+    // The letter of this case. Each field casts its own enum: a type parameter has no cast to a number.
     fn letter(&self) -> u8
         ensures { result ≡ told self.now };
 
     ghost listed: { (x : Self) → one_of letters (told x) ≡ true };
 
     ghost apart: { (x y : Self) → told x ≡ told y → x ≡ y };
+
+    // The case of a letter.
+    final fn of_letter(byte: u8) -> Option<Self>
+        ensures { option_map told result ≡ letter_among letters byte }
+    {
+        Self::cases()
+            .iter()
+            .find(|case| case.letter() == byte)
+            .copied()
+    }
 }
 
 // The case that a text of one letter tells.
@@ -35,8 +45,5 @@ pub fn read_letter<L: Letter>(text: &[u8]) -> Result<L, NotACode>
     let [byte] = text else {
         return Err(NotACode);
     };
-    match L::of_letter(*byte) {
-        Some(case) => Ok(case),
-        None => Err(NotACode),
-    }
+    L::of_letter(*byte).ok_or(NotACode)
 }

@@ -46,12 +46,12 @@ impl OtherParty {
         }
     }
 
-    // The text that names the party, as a code wide enough for either kind.
+    // The text that names the party, as a code wide enough for either kind. No `From`: the name says what is left out.
     pub fn code(&self) -> ClientCode
         ensures { text_of result ≡ (party_parts self.now).text }
     {
         match self {
-            OtherParty::Lei(lei) => lei.as_client_code(),
+            OtherParty::Lei(lei) => ClientCode::from(*lei),
             OtherParty::Client(code) => *code,
         }
     }

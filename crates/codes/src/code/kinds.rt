@@ -4,7 +4,7 @@ ghost use Rattle.codes.specs.Values.{is_client_code, is_country, is_currency, is
 
 use super::{ClientCode, Country, Currency, Lei, ProductId, TradeId, UnderlyingId, Venue};
 
-// For each value, whether a text spells it.
+// For each value, whether a text spells it. One text can spell several, and callers ask for each by its name.
 #[derive(Clone, Copy)]
 pub struct Kinds {
     pub trade_id: bool,

@@ -20,12 +20,8 @@ impl Letter for Side {
 
     ghost apart = { Prim.search rules };
 
-    fn of_letter(byte: u8) -> Option<Side> {
-        match byte {
-            b'B' => Some(Side::Buyer),
-            b'S' => Some(Side::Seller),
-            _ => None,
-        }
+    fn cases() -> &'static [Side] {
+        &[Side::Buyer, Side::Seller]
     }
 
     fn letter(&self) -> u8 {
@@ -51,12 +47,8 @@ impl Letter for ProductIdKind {
 
     ghost apart = { Prim.search rules };
 
-    fn of_letter(byte: u8) -> Option<ProductIdKind> {
-        match byte {
-            b'I' => Some(ProductIdKind::Isin),
-            b'A' => Some(ProductIdKind::Aii),
-            _ => None,
-        }
+    fn cases() -> &'static [ProductIdKind] {
+        &[ProductIdKind::Isin, ProductIdKind::Aii]
     }
 
     fn letter(&self) -> u8 {
@@ -86,15 +78,14 @@ impl Letter for UnderlyingKind {
 
     ghost apart = { Prim.search rules };
 
-    fn of_letter(byte: u8) -> Option<UnderlyingKind> {
-        match byte {
-            b'I' => Some(UnderlyingKind::Isin),
-            b'A' => Some(UnderlyingKind::Aii),
-            b'U' => Some(UnderlyingKind::Upi),
-            b'B' => Some(UnderlyingKind::Basket),
-            b'X' => Some(UnderlyingKind::Index),
-            _ => None,
-        }
+    fn cases() -> &'static [UnderlyingKind] {
+        &[
+            UnderlyingKind::Isin,
+            UnderlyingKind::Aii,
+            UnderlyingKind::Upi,
+            UnderlyingKind::Basket,
+            UnderlyingKind::Index,
+        ]
     }
 
     fn letter(&self) -> u8 {
@@ -118,12 +109,8 @@ impl Letter for Compression {
 
     ghost apart = { Prim.search rules };
 
-    fn of_letter(byte: u8) -> Option<Compression> {
-        match byte {
-            b'Y' => Some(Compression::Compressed),
-            b'N' => Some(Compression::Uncompressed),
-            _ => None,
-        }
+    fn cases() -> &'static [Compression] {
+        &[Compression::Compressed, Compression::Uncompressed]
     }
 
     fn letter(&self) -> u8 {
@@ -148,13 +135,12 @@ impl Letter for PriceNotation {
 
     ghost apart = { Prim.search rules };
 
-    fn of_letter(byte: u8) -> Option<PriceNotation> {
-        match byte {
-            b'U' => Some(PriceNotation::Units),
-            b'P' => Some(PriceNotation::Percentage),
-            b'Y' => Some(PriceNotation::Yield),
-            _ => None,
-        }
+    fn cases() -> &'static [PriceNotation] {
+        &[
+            PriceNotation::Units,
+            PriceNotation::Percentage,
+            PriceNotation::Yield,
+        ]
     }
 
     fn letter(&self) -> u8 {

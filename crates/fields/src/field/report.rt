@@ -22,12 +22,8 @@ impl Letter for PartyKind {
 
     ghost apart = { Prim.search rules };
 
-    fn of_letter(byte: u8) -> Option<PartyKind> {
-        match byte {
-            b'L' => Some(PartyKind::Lei),
-            b'C' => Some(PartyKind::Client),
-            _ => None,
-        }
+    fn cases() -> &'static [PartyKind] {
+        &[PartyKind::Lei, PartyKind::Client]
     }
 
     fn letter(&self) -> u8 {
@@ -65,18 +61,17 @@ impl Letter for Action {
 
     ghost apart = { Prim.search rules };
 
-    fn of_letter(byte: u8) -> Option<Action> {
-        match byte {
-            b'N' => Some(Action::New),
-            b'P' => Some(Action::PositionComponent),
-            b'M' => Some(Action::Modify),
-            b'R' => Some(Action::Correction),
-            b'V' => Some(Action::ValuationUpdate),
-            b'C' => Some(Action::EarlyTermination),
-            b'Z' => Some(Action::Compression),
-            b'E' => Some(Action::Error),
-            _ => None,
-        }
+    fn cases() -> &'static [Action] {
+        &[
+            Action::New,
+            Action::PositionComponent,
+            Action::Modify,
+            Action::Correction,
+            Action::ValuationUpdate,
+            Action::EarlyTermination,
+            Action::Compression,
+            Action::Error,
+        ]
     }
 
     fn letter(&self) -> u8 {
@@ -100,12 +95,8 @@ impl Letter for Level {
 
     ghost apart = { Prim.search rules };
 
-    fn of_letter(byte: u8) -> Option<Level> {
-        match byte {
-            b'T' => Some(Level::Trade),
-            b'P' => Some(Level::Position),
-            _ => None,
-        }
+    fn cases() -> &'static [Level] {
+        &[Level::Trade, Level::Position]
     }
 
     fn letter(&self) -> u8 {
