@@ -6,11 +6,10 @@ use Rattle.std.proofs.lemmas.List.{length-drop, length-take-le}
 use Rattle.std.proofs.lemmas.List.Sums.{prefix_len-le-length}
 use Rattle.std.proofs.lemmas.Bool.{cond-true, cond-false, eq-eqb}
 use Rattle.std.proofs.lemmas.Bool.Decides.{nat_tests}
-use Rattle.journal.specs.Bytes.{of_kind}
+use Rattle.journal.specs.Bytes.{blank, in_word}
 use Rattle.journal.specs.Escapes.{decoded}
 use Rattle.journal.specs.Lines.{first_word, after_word, without_blanks}
 use Rattle.journal.specs.Words.{before_all, decoded_all, words_of, words_within}
-use Rattle.journal.specs.declared.runs.ByteKind.TheVariants.{Blank, InWord}
 
 -- words before what the rest stands for
 abbrev pub behind_all : List (List ℕ) → Option (List (List ℕ)) → Option (List (List ℕ))
@@ -24,17 +23,17 @@ behind_all_one xs w (Some ys) = ap Some (sym (append_assoc xs (w ∷ []) ys))
 -- a word leaves less of its line
 pub after_shorter : (line : List ℕ) → 0 < length (first_word line) → length (after_word line) < length line
 after_shorter line h =
-    let j : ℕ = prefix_len (of_kind Blank) line in
+    let j : ℕ = prefix_len blank line in
     let rest : List ℕ = without_blanks line in
-    let k : ℕ = prefix_len (of_kind InWord) rest in
-    omega (arith, length-drop j line, length-drop k rest, length-take-le k rest (prefix_len-le-length (of_kind InWord) rest), prefix_len-le-length (of_kind InWord) rest)
+    let k : ℕ = prefix_len in_word rest in
+    omega (arith, length-drop j line, length-drop k rest, length-take-le k rest (prefix_len-le-length in_word rest), prefix_len-le-length in_word rest)
 
 first_shorter : (line : List ℕ) → length (first_word line) ≤ length line
 first_shorter line =
-    let j : ℕ = prefix_len (of_kind Blank) line in
+    let j : ℕ = prefix_len blank line in
     let rest : List ℕ = without_blanks line in
-    let k : ℕ = prefix_len (of_kind InWord) rest in
-    omega (arith, length-drop j line, length-take-le k rest (prefix_len-le-length (of_kind InWord) rest), prefix_len-le-length (of_kind InWord) rest)
+    let k : ℕ = prefix_len in_word rest in
+    omega (arith, length-drop j line, length-take-le k rest (prefix_len-le-length in_word rest), prefix_len-le-length in_word rest)
 
 within_none : (most : ℕ) (line : List ℕ) → length (first_word line) ≡ 0 → words_within most line ≡ []
 within_none zero line h = refl
