@@ -1,9 +1,11 @@
 // The first line of a journal, and the first word of a line.
 ghost use Rattle.std.specs.Prelude.{◌≡◌, ◌<◌, ◌≤◌, length};
+ghost use Rattle.std.specs.Iterator.{at_most};
 ghost use Rattle.std.specs.List.{prefix_len};
+ghost use Rattle.std.specs.Option.{option_copied};
 ghost use Rattle.std.specs.Str.{bytes_eq};
 ghost use Rattle.journal.specs.Bytes.{blank, in_line, in_word};
-ghost use Rattle.journal.specs.Lines.{after_line, after_word, first_line, first_word};
+ghost use Rattle.journal.specs.Lines.{after_line, after_word, first_line, first_word, YieldsLine};
 
 fn line_len(text: &[u8]) -> usize
     ensures value { result ≡ prefix_len in_line text.now }
@@ -43,6 +45,27 @@ pub fn first_line(text: &[u8]) -> (&[u8], &[u8])
     match rest {
         [] => (line, rest),
         [_, after @ ..] => (line, after),
+    }
+}
+
+// The lines of a journal, first to last.
+#[derive(Drop)]
+pub struct Lines<'a>(pub &'a [u8]);
+
+impl<'a> Iterator for Lines<'a> {
+    type Item = &'a [u8];
+
+    ghost next_gives = { λ s r t. YieldsLine s.0.now (option_copied r) t.0.now };
+
+    ghost remaining = { λ s. at_most (length s.0.now) };
+
+    fn next(&mut self) -> Option<&'a [u8]> {
+        if self.0.is_empty() {
+            return None;
+        }
+        let (line, rest) = first_line(self.0);
+        self.0 = rest;
+        Some(line)
     }
 }
 
