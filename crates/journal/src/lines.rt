@@ -7,6 +7,7 @@ ghost use Rattle.std.specs.Str.{bytes_eq};
 ghost use Rattle.journal.specs.Bytes.{blank, in_line, in_word};
 ghost use Rattle.journal.specs.Lines.{after_line, after_word, first_line, first_word, YieldsLine};
 
+// Three chains and no function over the test: its clause on the closure would be longer than a chain.
 fn line_len(text: &[u8]) -> usize
     ensures value { result ≡ prefix_len in_line text.now }
     ensures within { result ≤ length text.now }

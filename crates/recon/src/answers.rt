@@ -1,6 +1,6 @@
 // Answers the lines of a journal.
 ghost use Rattle.std.specs.Prelude.{◌≡◌, map, IfOk, IfErr, Some, vec_items, string_bytes};
-ghost use Rattle.recon.specs.Answers.{answer_of, call_answer, check_named, no_call, said, text};
+ghost use Rattle.recon.specs.Answers.{answer_of, call_answer, no_call, said, text};
 ghost use Rattle.recon.specs.Faults.{IfNoCall};
 ghost use Rattle.recon.specs.Outcomes.{pair_text};
 
@@ -11,17 +11,6 @@ use journal::escapes::escape;
 use journal::lines::first_word;
 use journal::words::read_words;
 use std::alloc::{AllocError, Global};
-
-// The check that a verb names.
-fn check_named(verb: &[u8]) -> Option<AmountCheck>
-    ensures { result ≡ check_named verb.now }
-{
-    match verb {
-        b"price" => Some(AmountCheck::Price),
-        b"notional" => Some(AmountCheck::Notional),
-        _ => None,
-    }
-}
 
 // The answer to a pair of amounts.
 fn pair_answer(
@@ -46,7 +35,7 @@ fn call_answer(alloc: Global, words: &[Vec<u8>]) -> Result<String, Fault>
     let [verb, behind @ ..] = words else {
         return Err(Fault::NoVerb);
     };
-    let Some(check) = check_named(verb.as_slice()) else {
+    let Ok(check) = AmountCheck::try_from(verb.as_slice()) else {
         return Err(Fault::UnknownVerb(escape(alloc, verb.as_slice())?));
     };
     let [first, second] = behind else {

@@ -1,10 +1,12 @@
 // Compares two amounts as a journal spells them.
 ghost use Rattle.std.specs.Prelude.{◌≡◌, Some, Ok, Err};
+ghost use Rattle.std.specs.Result.{result_ok};
 ghost use Rattle.refusals.specs.Words.{parts_of};
+ghost use Rattle.recon.specs.Answers.{check_named};
 ghost use Rattle.recon.specs.Outcomes.{bad_field, check_of, outcome, outcome_of, outcome_text, side_name, verb_text};
 ghost use Rattle.amounts.specs.Amounts.{worth};
 
-use crate::comparison::{AmountCheck, Comparison, SentBack, Side};
+use crate::comparison::{AmountCheck, Comparison, SentBack, Side, UnknownVerb};
 use amounts::amount::Amount;
 use refusals::refusal::Refusal;
 use refusals::tag::Tag;
@@ -58,7 +60,21 @@ pub fn compare_amounts(
     }
 }
 
-// The verb that asks for the check.
+// A verb asks for the check that it names.
+impl<'a> TryFrom<&'a [u8]> for AmountCheck {
+    type Error = UnknownVerb;
+
+    ghost try_from_gives = { λ verb check. result_ok check ≡ check_named verb.now };
+
+    fn try_from(verb: &'a [u8]) -> Result<AmountCheck, UnknownVerb> {
+        match verb {
+            b"price" => Ok(AmountCheck::Price),
+            b"notional" => Ok(AmountCheck::Notional),
+            _ => Err(UnknownVerb),
+        }
+    }
+}
+
 impl fmt::Display for AmountCheck {
     ghost output = { λ c. Some (verb_text c) };
 
