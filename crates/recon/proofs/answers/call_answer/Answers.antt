@@ -1,4 +1,4 @@
-use Rattle.std.proofs.Common.{rules, arith}
+use Rattle.std.proofs.Common.{arith}
 use Rattle.std.proofs.lemmas.Grind.{common_steps}
 use Rattle.recon.proofs.answers.call_answer.Goals.{in_default-behind-via-then-behind-lt2, in_default-behind-via-else-behind-lt2+else-behind-lt3}
 use Rattle.recon.proofs.answers.call_answer.Goals as goal

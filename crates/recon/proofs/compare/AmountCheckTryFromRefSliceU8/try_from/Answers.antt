@@ -1,4 +1,4 @@
-use Rattle.std.proofs.Common.{◌≡◌, length, codes, sym, ap, arith, rules}
+use Rattle.std.proofs.Common.{codes, sym, ap, arith, rules}
 use Rattle.std.proofs.lemmas.Slice.Eq.{text_from_reads}
 use Rattle.recon.specs.Answers.{check_named}
 use Rattle.recon.proofs.compare.AmountCheckTryFromRefSliceU8.try_from.Goals as goal
