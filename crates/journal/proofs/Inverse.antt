@@ -1,5 +1,5 @@
 -- Escapes read back.
-use Rattle.std.proofs.Common.{◌≡◌, ℕ, ◌+◌, ◌/◌, ◌%◌, ◌<◌, ◌≤◌, Bool, true, false, cond, not, eqb, List, [], ◌∷◌, ◌++◌, length, get_or, take, drop, Some, None, Option, sym, refl, ap, ◌∙◌, append_assoc, append-nil, arith}
+use Rattle.std.proofs.Common.{◌≡◌, ℕ, ◌+◌, ◌/◌, ◌%◌, ◌<◌, Bool, true, false, cond, not, eqb, List, [], ◌∷◌, ◌++◌, length, get_or, take, Some, None, Option, sym, refl, ap, ◌∙◌, append_assoc, append-nil, arith}
 use Rattle.std.specs.Int.{is_in_range}
 use Rattle.std.specs.List.{AllByRecursion}
 use Rattle.std.proofs.ByRecursion.{All-append}
@@ -23,18 +23,6 @@ pub decoded-plain : (b : ℕ) (xs : List ℕ) → eqb b 37 ≡ false → decoded
 decoded-plain b [] e = rw e
 decoded-plain b (c ∷ []) e = rw e
 decoded-plain b (c ∷ d ∷ rest) e = rw e
-
--- what an escape at the front stands for
-pub decoded_escape : (xs : List ℕ) → 3 ≤ length xs → get_or xs 0 0 ≡ 37 → decoded xs ≡ before (pair_value (hex_value (get_or xs 1 0)) (hex_value (get_or xs 2 0))) (decoded (drop 3 xs))
-decoded_escape [] l e = absurd (omega arith)
-decoded_escape (b ∷ []) l e = absurd (omega arith)
-decoded_escape (b ∷ c ∷ []) l e = absurd (omega arith)
-decoded_escape (b ∷ c ∷ d ∷ rest) l e = rw e
-
--- and any other byte
-pub decoded_other : (xs : List ℕ) → 0 < length xs → (get_or xs 0 0 ≡ 37 → ⊥) → decoded xs ≡ before (Some (get_or xs 0 0)) (decoded (drop 1 xs))
-decoded_other [] l ne = absurd (omega arith)
-decoded_other (b ∷ xs) l ne = decoded-plain b xs (grind (arith, nat_tests))
 
 hex_back : (d : ℕ) → d < 16 → hex_value (hex_digit d) ≡ Some d
 hex_back d h = grind (arith, nat_tests)
@@ -60,14 +48,6 @@ escaped-append (x ∷ xs) b = ap (λ (t : List ℕ). escaped_byte x ++ t) (escap
 -- escapes of one byte more
 pub escaped_more : (xs : List ℕ) (i d : ℕ) → i < length xs → escaped (take (i + 1) xs) ≡ escaped (take i xs) ++ escaped_byte (get_or xs i d)
 escaped_more xs i d h = ap escaped (take_more xs i d h) ∙ escaped-append (take i xs) (get_or xs i d)
-
--- three bytes, one behind the other
-pub three_pushed : (b x y z e f g : List ℕ) (m n o : ℕ) → x ≡ b ++ e → e ≡ m ∷ [] → y ≡ x ++ f → f ≡ n ∷ [] → z ≡ y ++ g → g ≡ o ∷ [] → z ≡ b ++ (m ∷ n ∷ o ∷ [])
-three_pushed b x y z e f g m n o p₁ q₁ p₂ q₂ p₃ q₃ =
-    p₃ ∙ ap (λ (t : List ℕ). y ++ t) q₃
-    ∙ ap (λ (t : List ℕ). t ++ (o ∷ [])) (p₂ ∙ ap (λ (t : List ℕ). x ++ t) q₂)
-    ∙ ap (λ (t : List ℕ). (t ++ (n ∷ [])) ++ (o ∷ [])) (p₁ ∙ ap (λ (t : List ℕ). b ++ t) q₁)
-    ∙ simp append_assoc
 
 hex_printable : (d : ℕ) → d < 16 → is_in_range 33 126 (hex_digit d) ≡ true
 hex_printable d h = grind (arith, nat_tests)

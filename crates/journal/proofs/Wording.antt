@@ -1,40 +1,34 @@
 -- A line's words, one after the other.
-use Rattle.std.proofs.Common.{◌≡◌, ℕ, zero, suc, ◌-◌, ◌<◌, ◌≤◌, eqb, List, [], ◌∷◌, ◌++◌, length, Some, None, Option, sym, refl, ap, ◌∙◌, append_assoc, append-nil, arith}
+use Rattle.std.proofs.Common.{◌≡◌, ℕ, zero, suc, ◌-◌, ◌<◌, ◌≤◌, eqb, List, [], ◌∷◌, ◌++◌, length, Some, None, Option, sym, refl, ap, ◌∙◌, arith}
 use native.Mathlib.Decide.{dec_lt}
 use Rattle.std.specs.List.{prefix_len}
 use Rattle.std.proofs.lemmas.List.{length-drop, length-take-le}
 use Rattle.std.proofs.lemmas.List.Sums.{prefix_len-le-length}
 use Rattle.std.proofs.lemmas.Bool.{cond-true, cond-false, eq-eqb}
 use Rattle.std.proofs.lemmas.Bool.Decides.{nat_tests}
-use Rattle.journal.specs.Bytes.{of_kind}
-use Rattle.journal.specs.Escapes.{decoded}
+use Rattle.journal.specs.Bytes.{blank, in_word}
 use Rattle.journal.specs.Lines.{first_word, after_word, without_blanks}
-use Rattle.journal.specs.Words.{before_all, decoded_all, words_of, words_within}
-use Rattle.journal.specs.declared.runs.ByteKind.TheVariants.{Blank, InWord}
+use Rattle.journal.specs.Words.{words_of, words_within}
 
 -- words before what the rest stands for
 abbrev pub behind_all : List (List ℕ) → Option (List (List ℕ)) → Option (List (List ℕ))
 behind_all xs (Some ys) = Some (xs ++ ys)
 behind_all xs None = None
 
-pub behind_all_one : (xs : List (List ℕ)) (w : List ℕ) (o : Option (List (List ℕ))) → behind_all xs (before_all (Some w) o) ≡ behind_all (xs ++ (w ∷ [])) o
-behind_all_one xs w None = refl
-behind_all_one xs w (Some ys) = ap Some (sym (append_assoc xs (w ∷ []) ys))
-
 -- a word leaves less of its line
 pub after_shorter : (line : List ℕ) → 0 < length (first_word line) → length (after_word line) < length line
 after_shorter line h =
-    let j : ℕ = prefix_len (of_kind Blank) line in
+    let j : ℕ = prefix_len blank line in
     let rest : List ℕ = without_blanks line in
-    let k : ℕ = prefix_len (of_kind InWord) rest in
-    omega (arith, length-drop j line, length-drop k rest, length-take-le k rest (prefix_len-le-length (of_kind InWord) rest), prefix_len-le-length (of_kind InWord) rest)
+    let k : ℕ = prefix_len in_word rest in
+    omega (arith, length-drop j line, length-drop k rest, length-take-le k rest (prefix_len-le-length in_word rest), prefix_len-le-length in_word rest)
 
 first_shorter : (line : List ℕ) → length (first_word line) ≤ length line
 first_shorter line =
-    let j : ℕ = prefix_len (of_kind Blank) line in
+    let j : ℕ = prefix_len blank line in
     let rest : List ℕ = without_blanks line in
-    let k : ℕ = prefix_len (of_kind InWord) rest in
-    omega (arith, length-drop j line, length-take-le k rest (prefix_len-le-length (of_kind InWord) rest), prefix_len-le-length (of_kind InWord) rest)
+    let k : ℕ = prefix_len in_word rest in
+    omega (arith, length-drop j line, length-take-le k rest (prefix_len-le-length in_word rest), prefix_len-le-length in_word rest)
 
 within_none : (most : ℕ) (line : List ℕ) → length (first_word line) ≡ 0 → words_within most line ≡ []
 within_none zero line h = refl
@@ -56,37 +50,9 @@ enough (suc m) (suc n) line p q =
       | no h ↦ within_none (suc m) line (omega arith) ∙ sym (within_none (suc n) line (omega arith))
     ]
 
-pub words_none : (line : List ℕ) → length (first_word line) ≡ 0 → words_of line ≡ []
-words_none line h = within_none (length line) line h
-
 pub words_more : (line : List ℕ) → 0 < length (first_word line) → words_of line ≡ first_word line ∷ words_of (after_word line)
 words_more line h =
     let i : length line ≡ suc (length line - 1) = omega (arith, first_shorter line) in
     ap (λ (m : ℕ). words_within m line) i
     ∙ within_more (length line - 1) line h
     ∙ ap (λ (ws : List (List ℕ)). first_word line ∷ ws) (enough (length line - 1) (length (after_word line)) (after_word line) (omega (arith, after_shorter line h)) (omega arith))
-
--- the words so far are xs, and `rest` is left of the line
-abbrev pub ReadSoFar : List ℕ → List (List ℕ) → List ℕ → Type 0
-ReadSoFar line xs rest = decoded_all (words_of line) ≡ behind_all xs (decoded_all (words_of rest))
-
-pub no_word_left : (line rest word : List ℕ) (xs : List (List ℕ)) → ReadSoFar line xs rest → word ≡ first_word rest → length word ≡ 0 → Some xs ≡ decoded_all (words_of line)
-no_word_left line rest word xs inv e h =
-    sym (inv ∙ ap (λ (ws : List (List ℕ)). behind_all xs (decoded_all ws)) (words_none rest (sym (ap length e) ∙ h)) ∙ ap Some (append-nil xs))
-
-next_word : (rest word after : List ℕ) → word ≡ first_word rest → after ≡ after_word rest → 0 < length word → decoded_all (words_of rest) ≡ before_all (decoded word) (decoded_all (words_of after))
-next_word rest word after e f h =
-    ap decoded_all (words_more rest (omega (arith, ap length e)))
-    ∙ ap (λ (w : List ℕ). before_all (decoded w) (decoded_all (words_of (after_word rest)))) (sym e)
-    ∙ ap (λ (r : List ℕ). before_all (decoded word) (decoded_all (words_of r))) (sym f)
-
-pub bad_word : (line rest word after : List ℕ) (xs : List (List ℕ)) → ReadSoFar line xs rest → word ≡ first_word rest → after ≡ after_word rest → 0 < length word → decoded word ≡ None → None ≡ decoded_all (words_of line)
-bad_word line rest word after xs inv e f h n =
-    sym (inv ∙ ap (behind_all xs) (next_word rest word after e f h ∙ ap (λ (o : Option (List ℕ)). before_all o (decoded_all (words_of after))) n))
-
-pub word_more : (line rest word after bytes : List ℕ) (xs ys : List (List ℕ)) → ReadSoFar line xs rest → word ≡ first_word rest → after ≡ after_word rest → 0 < length word → decoded word ≡ Some bytes → ys ≡ xs ++ (bytes ∷ []) → ReadSoFar line ys after
-word_more line rest word after bytes xs ys inv e f h d more =
-    inv
-    ∙ ap (behind_all xs) (next_word rest word after e f h ∙ ap (λ (o : Option (List ℕ)). before_all o (decoded_all (words_of after))) d)
-    ∙ behind_all_one xs bytes (decoded_all (words_of after))
-    ∙ ap (λ (zs : List (List ℕ)). behind_all zs (decoded_all (words_of after))) (sym more)

@@ -1,4 +1,5 @@
 pub mod Bytes
 pub mod Lines
 pub mod Escapes
+pub mod Errors
 pub mod Words

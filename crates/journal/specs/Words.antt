@@ -1,9 +1,7 @@
 -- The words of a line, and what they stand for.
-use Rattle.std.specs.Prelude.{ℕ, zero, suc, cond, List, [], ◌∷◌, map, length, Some, None, vec_items, Option, ◌==◌}
+use Rattle.std.specs.Prelude.{ℕ, zero, suc, cond, List, [], ◌∷◌, length, Some, None, Option, ◌==◌}
 use Rattle.journal.specs.Escapes.{decoded}
 use Rattle.journal.specs.Lines.{first_word, after_word}
-use Rattle.journal.specs.declared.words.Words.{Words}
-use Rattle.journal.specs.declared.words.Words.TheVariants.{Decoded, BadEscape}
 
 -- the first `most` words of a line, as they are written
 abbrev pub words_within : ℕ → List ℕ → List (List ℕ)
@@ -23,8 +21,3 @@ before_all None ws = None
 abbrev pub decoded_all : List (List ℕ) → Option (List (List ℕ))
 decoded_all [] = Some []
 decoded_all (w ∷ ws) = before_all (decoded w) (decoded_all ws)
-
--- what each answer says of the words
-abbrev pub read_words : Words → Option (List (List ℕ))
-read_words (Decoded words) = Some (map vec_items (vec_items words))
-read_words (BadEscape word) = None

@@ -1,21 +1,41 @@
 // Escapes in words, read and written.
-ghost use Rattle.std.specs.Prelude.{◌≡◌, ◌<◌, ◌++◌, length, IfSome, IfOk, Some, None, vec_items, string_bytes, MatchOption, OnOk};
-ghost use Rattle.std.specs.Option.{option_map};
-ghost use Rattle.journal.specs.Escapes.{EscapesAreSafe, before, decoded, escaped, escaped_byte, hex_digit, hex_value, plain};
+ghost use Rattle.std.specs.Prelude.{◌≡◌, ◌<◌, ◌++◌, length, alloc_error, IfSome, IfOk, IfErr, Some, None, string_bytes, MatchOption, OnOk};
+ghost use Rattle.journal.specs.Escapes.{EscapesAreSafe, before, decoded, escaped, escaped_byte, hex_value, plain};
+ghost use Rattle.journal.specs.Errors.{IfBadEscape};
+ghost use Rattle.journal.specs.declared.escapes.WordError.TheVariants.{OutOfMemory};
 
-use std::alloc::{AllocError, Global};
+use std::alloc::{AllocError, AllocFailed, Global};
+
+// Why a word was not decoded.
+#[derive(Debug, Drop)]
+pub enum WordError {
+    // the word, as it may be printed
+    BadEscape(String),
+    OutOfMemory(AllocError),
+}
+
+impl From<AllocError> for WordError {
+    ghost from_gives = { λ _ e. e ≡ OutOfMemory alloc_error };
+
+    fn from(error: AllocError) -> WordError {
+        WordError::OutOfMemory(error)
+    }
+}
+
+impl<T: Drop> From<AllocFailed<T>> for WordError {
+    ghost from_gives = { λ _ e. e ≡ OutOfMemory alloc_error };
+
+    fn from(failed: AllocFailed<T>) -> WordError {
+        WordError::OutOfMemory(AllocError::from(failed))
+    }
+}
 
 // The value of a hexadecimal digit, in capitals or not.
 pub fn hex_value(digit: u8) -> Option<u8>
     ensures value { result ≡ hex_value digit }
     ensures bound { IfSome result (λ v. v < 16) }
 {
-    match digit {
-        b'0'..=b'9' => Some(digit - b'0'),
-        b'A'..=b'F' => Some(digit - b'A' + 10),
-        b'a'..=b'f' => Some(digit - b'a' + 10),
-        _ => None,
-    }
+    char::from(digit).to_digit(16).map(|value| value as u8)
 }
 
 // The byte that the front of a word stands for, and what follows it; nothing where an escape is bad.
@@ -23,69 +43,57 @@ fn first_byte(word: &[u8]) -> Option<(u8, &[u8])>
     requires { 0 < length word.now }
     ensures { MatchOption result (decoded word.now ≡ None) (λ p. (decoded word.now ≡ before (Some p.0) (decoded p.1.now)) × (length p.1.now < length word.now)) }
 {
-    if word[0] != b'%' {
-        return Some((word[0], &word[1..]));
-    }
-    if word.len() < 3 {
-        return None;
-    }
-    match (hex_value(word[1]), hex_value(word[2])) {
-        (Some(high), Some(low)) => Some((high * 16 + low, &word[3..])),
+    match word {
+        [b'%', high, low, rest @ ..] => {
+            let high = hex_value(*high)?;
+            let low = hex_value(*low)?;
+            Some((high * 16 + low, rest))
+        }
+        [byte, rest @ ..] if *byte != b'%' => Some((*byte, rest)),
         _ => None,
     }
 }
 
-// The bytes that a word stands for, or nothing where an escape in it is bad.
-pub fn decode(heap: Global, word: &[u8]) -> Result<Option<Vec<u8>>, AllocError>
-    ensures { IfOk result (λ o. option_map vec_items o ≡ decoded word.now) }
+// The bytes that a word stands for.
+#[tactic(auto, using(crate::proofs::Inverse::behind_one))]
+pub fn decode(alloc: Global, word: &[u8]) -> Result<Vec<u8>, WordError>
+    ensures bytes { IfOk result (λ bytes. decoded word.now ≡ Some bytes.items) }
+    ensures bad { IfErr result (λ e. IfBadEscape e (decoded word.now ≡ None)) }
 {
-    let mut bytes = Vec::new(heap);
+    let mut bytes = Vec::new(alloc);
     let mut rest = word;
     while !rest.is_empty() {
         let Some((byte, after)) = first_byte(rest) else {
-            return Ok(None);
+            return Err(WordError::BadEscape(escape(alloc, word)?));
         };
         bytes.push(byte)?;
         rest = after;
     }
-    Ok(Some(bytes))
+    Ok(bytes)
 }
 
 fn is_plain(byte: u8) -> bool
     ensures { result ≡ plain byte }
 {
-    byte >= 33 && byte <= 126 && byte != b'%'
-}
-
-fn hex_digit(value: u8) -> char
-    requires { value < 16 }
-    ensures value { result ≡ hex_digit value }
-    ensures ascii { result < 128 }
-{
-    if value < 10 {
-        char::from(b'0' + value)
-    } else {
-        char::from(b'A' + (value - 10))
-    }
+    byte.is_ascii_graphic() && byte != b'%'
 }
 
 fn push_escaped(out: &mut String, byte: u8) -> Result<(), AllocError>
     ensures { OnOk result (string_bytes out.new ≡ string_bytes out.old ++ escaped_byte byte) }
 {
     if is_plain(byte) {
-        return out.push(char::from(byte));
+        out.push(char::from(byte))
+    } else {
+        write!(out, "%{byte:02X}")
     }
-    out.push('%')?;
-    out.push(hex_digit(byte / 16))?;
-    out.push(hex_digit(byte % 16))?;
-    Ok(())
 }
 
 // Bytes as an answer prints them, so that none breaks its line.
-pub fn escape(heap: Global, bytes: &[u8]) -> Result<String, AllocError>
+#[tactic(auto, using(crate::proofs::Inverse::escaped_more))]
+pub fn escape(alloc: Global, bytes: &[u8]) -> Result<String, AllocError>
     ensures { IfOk result (λ s. string_bytes s ≡ escaped bytes.now) }
 {
-    let mut out = String::new(heap);
+    let mut out = String::new(alloc);
     for byte in bytes {
         push_escaped(&mut out, *byte)?;
     }

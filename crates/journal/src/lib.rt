@@ -3,5 +3,4 @@
 
 pub mod escapes;
 pub mod lines;
-mod runs;
 pub mod words;

@@ -1,33 +1,43 @@
 // The words of a line.
-ghost use Rattle.std.specs.Prelude.{◌≡◌, IfOk};
-ghost use Rattle.journal.specs.Words.{decoded_all, read_words, words_of};
+ghost use Rattle.std.specs.Prelude.{◌≡◌, IfOk, IfErr, map, vec_items, Some, None};
+ghost use Rattle.std.specs.Iterator.{YieldsFirstRef, item_count};
+ghost use Rattle.journal.specs.Errors.{IfBadEscape};
+ghost use Rattle.journal.specs.Words.{decoded_all, words_of};
 
-use crate::escapes::{decode, escape};
+use crate::escapes::{WordError, decode};
 use crate::lines::first_word;
-use std::alloc::{AllocError, Global};
+use std::alloc::Global;
 
-// What a line's words stand for, or the first word with a bad escape, as it may be printed.
+// The words of a line as they are written, first to last.
 #[derive(Drop)]
-pub enum Words {
-    Decoded(Vec<Vec<u8>>),
-    BadEscape(String),
+pub struct Words<'a>(pub &'a [u8]);
+
+impl<'a> Iterator for Words<'a> {
+    type Item = &'a [u8];
+
+    ghost next_gives = { YieldsFirstRef (λ s. words_of s.0.now) };
+
+    ghost remaining = { item_count (λ s. words_of s.0.now) };
+
+    #[tactic(auto, using(crate::proofs::Wording::words_more))]
+    fn next(&mut self) -> Option<&'a [u8]> {
+        let (word, rest) = first_word(self.0);
+        if word.is_empty() {
+            return None;
+        }
+        self.0 = rest;
+        Some(word)
+    }
 }
 
-// The words of a line, with what their escapes stand for.
-pub fn read_words(heap: Global, line: &[u8]) -> Result<Words, AllocError>
-    ensures { IfOk result (λ w. read_words w ≡ decoded_all (words_of line.now)) }
+// What the words of a line stand for.
+pub fn read_words(alloc: Global, line: &[u8]) -> Result<Vec<Vec<u8>>, WordError>
+    ensures words { IfOk result (λ words. decoded_all (words_of line.now) ≡ Some (map vec_items words.items)) }
+    ensures bad { IfErr result (λ e. IfBadEscape e (decoded_all (words_of line.now) ≡ None)) }
 {
-    let mut words = Vec::new(heap);
-    let mut rest = line;
-    loop {
-        let (word, after) = first_word(rest);
-        if word.is_empty() {
-            return Ok(Words::Decoded(words));
-        }
-        let Some(bytes) = decode(heap, word)? else {
-            return Ok(Words::BadEscape(escape(heap, word)?));
-        };
-        words.push(bytes)?;
-        rest = after;
+    let mut words = Vec::new(alloc);
+    for word in Words(line) {
+        words.push(decode(alloc, word)?)?;
     }
+    Ok(words)
 }

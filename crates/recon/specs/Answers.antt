@@ -1,11 +1,10 @@
 -- What each line of a journal is answered.
-use Rattle.std.specs.Prelude.{ℕ, Bool, cond, ◌||◌, List, [], ◌∷◌, length, Some, None, string_bytes, codes, Option, ◌==◌, slice_index}
+use Rattle.std.specs.Prelude.{ℕ, Bool, cond, ◌||◌, List, [], ◌∷◌, length, Some, None, string_bytes, codes, Option, String, ◌==◌, slice_index}
 use Rattle.std.specs.Str.{bytes_eq}
+use Rattle.std.specs.declared.alloc.Global.{Global}
 use Rattle.journal.specs.Lines.{first_word}
 use Rattle.journal.specs.Words.{decoded_all, words_of}
 use Rattle.recon.specs.Outcomes.{pair_text}
-use Rattle.recon.specs.declared.answer.Answer.{Answer}
-use Rattle.recon.specs.declared.answer.Answer.TheVariants.{PassedOver, Answered, NoCall}
 use Rattle.recon.specs.declared.comparison.AmountCheck.{AmountCheck}
 use Rattle.recon.specs.declared.comparison.AmountCheck.TheVariants.{Price, Notional}
 
@@ -15,11 +14,10 @@ pub data Said : Type 0 where
   text : List ℕ → Said
   no_call : Said
 
--- what each answer says
-abbrev pub said : Answer → Said
-said PassedOver = nothing
-said (Answered answer) = text (string_bytes answer)
-said (NoCall fault) = no_call
+-- what a line that is a call, or one to pass over, is answered
+abbrev pub said : Option (String Global) → Said
+said None = nothing
+said (Some answer) = text (string_bytes answer)
 
 -- a blank line, or one whose first word begins with '#'
 abbrev pub passed_over : List ℕ → Bool

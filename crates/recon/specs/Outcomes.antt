@@ -1,5 +1,5 @@
 -- What comparing two amounts comes to, and the words that tell it.
-use Rattle.std.specs.Prelude.{ℕ, Bool, true, false, List, ◌++◌, ℤ, Some, None, codes, Option}
+use Rattle.std.specs.Prelude.{ℕ, Bool, true, false, List, ◌++◌, ℤ, Some, None, codes, Option, Result, Ok, Err}
 use Rattle.amounts.specs.Amounts.{worth}
 use Rattle.amounts.specs.Checks.{within_one_percent, same_whole}
 use Rattle.amounts.specs.Decimal.{amount_of}
@@ -8,7 +8,8 @@ use Rattle.refusals.specs.Words.{RefusalParts, parts_of, refusal_text}
 use Rattle.recon.specs.declared.comparison.AmountCheck.{AmountCheck}
 use Rattle.recon.specs.declared.comparison.AmountCheck.TheVariants.{Price, Notional}
 use Rattle.recon.specs.declared.comparison.Comparison.{Comparison}
-use Rattle.recon.specs.declared.comparison.Comparison.TheVariants.{Matches, Differs, Refused}
+use Rattle.recon.specs.declared.comparison.Comparison.TheVariants.{Matches, Differs}
+use Rattle.recon.specs.declared.comparison.SentBack.{SentBack}
 use Rattle.recon.specs.declared.comparison.Side.{Side}
 use Rattle.recon.specs.declared.comparison.Side.TheVariants.{First, Second}
 
@@ -36,23 +37,23 @@ abbrev pub outcome_of : AmountCheck → List ℕ → List ℕ → Outcome
 outcome_of check first second = judged check (amount_of 20 first) (amount_of 20 second)
 
 -- what each comparison says
-abbrev pub outcome : Comparison → Outcome
-outcome (Matches a b) = compared (worth a) (worth b) true
-outcome (Differs a b) = compared (worth a) (worth b) false
-outcome (Refused refusal side) = sent_back (parts_of refusal) side
+abbrev pub outcome : Result Comparison SentBack → Outcome
+outcome (Ok (Matches a b)) = compared (worth a) (worth b) true
+outcome (Ok (Differs a b)) = compared (worth a) (worth b) false
+outcome (Err sent) = sent_back (parts_of sent.refusal) sent.side
 
 abbrev pub verdict_text : Bool → List ℕ
 verdict_text true = codes " matches"
 verdict_text false = codes " differs"
 
-abbrev pub side_text : Side → List ℕ
-side_text First = codes " first"
-side_text Second = codes " second"
+abbrev pub side_name : Side → List ℕ
+side_name First = codes "first"
+side_name Second = codes "second"
 
 -- both amounts in shortest form and the verdict, or the refusal and its side
 abbrev pub outcome_text : Outcome → List ℕ
 outcome_text (compared x y matches) = shortest_text x ++ (codes " " ++ (shortest_text y ++ verdict_text matches))
-outcome_text (sent_back refusal side) = refusal_text refusal ++ side_text side
+outcome_text (sent_back refusal side) = refusal_text refusal ++ (codes " " ++ side_name side)
 
 abbrev pub verb_text : AmountCheck → List ℕ
 verb_text Price = codes "price"

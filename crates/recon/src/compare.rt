@@ -1,33 +1,35 @@
 // Compares two amounts as a journal spells them.
-ghost use Rattle.std.specs.Prelude.{◌≡◌, Some};
+ghost use Rattle.std.specs.Prelude.{◌≡◌, Some, Ok, Err};
+ghost use Rattle.std.specs.Result.{result_ok};
 ghost use Rattle.refusals.specs.Words.{parts_of};
-ghost use Rattle.recon.specs.Outcomes.{bad_field, check_of, outcome, outcome_of, outcome_text, verb_text};
+ghost use Rattle.recon.specs.Answers.{check_named};
+ghost use Rattle.recon.specs.Outcomes.{bad_field, check_of, outcome, outcome_of, outcome_text, side_name, verb_text};
 ghost use Rattle.amounts.specs.Amounts.{worth};
 
-use crate::comparison::{AmountCheck, Comparison, Side};
+use crate::comparison::{AmountCheck, Comparison, SentBack, Side, UnknownVerb};
 use amounts::amount::Amount;
 use refusals::refusal::Refusal;
 use refusals::tag::Tag;
 use std::fmt;
 
 impl AmountCheck {
-    // The verb that asks for the check.
-    pub fn verb(self) -> &'static str
-        ensures { result.now ≡ verb_text self }
+    fn tag(self) -> Tag
+        ensures { parts_of (Refusal.BadField result) ≡ bad_field self }
     {
         match self {
-            AmountCheck::Price => "price",
-            AmountCheck::Notional => "notional",
+            AmountCheck::Price => Tag::Price,
+            AmountCheck::Notional => Tag::Notional,
         }
     }
 
-    // The refusal of a text that is no amount.
-    fn bad_field(self) -> Refusal
-        ensures { parts_of result ≡ bad_field self }
+    // The answer to a text that is no amount.
+    fn send_back(self, side: Side) -> SentBack
+        ensures refusal { parts_of result.refusal ≡ bad_field self }
+        ensures side { result.side ≡ side }
     {
-        match self {
-            AmountCheck::Price => Refusal::BadField(Tag::Price),
-            AmountCheck::Notional => Refusal::BadField(Tag::Notional),
+        SentBack {
+            refusal: Refusal::BadField(self.tag()),
+            side,
         }
     }
 
@@ -42,31 +44,76 @@ impl AmountCheck {
 }
 
 // Both texts read, and compared where both are amounts.
-pub fn compare_amounts(check: AmountCheck, first: &[u8], second: &[u8]) -> Comparison
+pub fn compare_amounts(
+    check: AmountCheck,
+    first: &[u8],
+    second: &[u8],
+) -> Result<Comparison, SentBack>
     ensures { outcome result ≡ outcome_of check first.now second.now }
 {
-    let Ok(a) = Amount::read(first) else {
-        return Comparison::Refused(check.bad_field(), Side::First);
-    };
-    let Ok(b) = Amount::read(second) else {
-        return Comparison::Refused(check.bad_field(), Side::Second);
-    };
+    let a = Amount::read(first).map_err(|_| check.send_back(Side::First))?;
+    let b = Amount::read(second).map_err(|_| check.send_back(Side::Second))?;
     if check.matches(&a, &b) {
-        Comparison::Matches(a, b)
+        Ok(Comparison::Matches(a, b))
     } else {
-        Comparison::Differs(a, b)
+        Ok(Comparison::Differs(a, b))
+    }
+}
+
+// A verb asks for the check that it names.
+impl<'a> TryFrom<&'a [u8]> for AmountCheck {
+    type Error = UnknownVerb;
+
+    ghost try_from_gives = { λ verb check. result_ok check ≡ check_named verb.now };
+
+    fn try_from(verb: &'a [u8]) -> Result<AmountCheck, UnknownVerb> {
+        match verb {
+            b"price" => Ok(AmountCheck::Price),
+            b"notional" => Ok(AmountCheck::Notional),
+            _ => Err(UnknownVerb),
+        }
+    }
+}
+
+impl fmt::Display for AmountCheck {
+    ghost output = { λ c. Some (verb_text c) };
+
+    fn fmt<W: fmt::Write>(&self, f: &mut fmt::Formatter<W>) -> fmt::Result {
+        match self {
+            AmountCheck::Price => write!(f, "price"),
+            AmountCheck::Notional => write!(f, "notional"),
+        }
+    }
+}
+
+impl fmt::Display for Side {
+    ghost output = { λ s. Some (side_name s) };
+
+    fn fmt<W: fmt::Write>(&self, f: &mut fmt::Formatter<W>) -> fmt::Result {
+        match self {
+            Side::First => write!(f, "first"),
+            Side::Second => write!(f, "second"),
+        }
     }
 }
 
 impl fmt::Display for Comparison {
-    ghost output = { λ c. Some (outcome_text (outcome c)) };
+    ghost output = { λ c. Some (outcome_text (outcome (Ok c))) };
 
     fn fmt<W: fmt::Write>(&self, f: &mut fmt::Formatter<W>) -> fmt::Result {
         match self {
             Comparison::Matches(a, b) => write!(f, "{a} {b} matches"),
             Comparison::Differs(a, b) => write!(f, "{a} {b} differs"),
-            Comparison::Refused(refusal, Side::First) => write!(f, "{refusal} first"),
-            Comparison::Refused(refusal, Side::Second) => write!(f, "{refusal} second"),
         }
+    }
+}
+
+impl fmt::Display for SentBack {
+    ghost output = { λ s. Some (outcome_text (outcome (Err s))) };
+
+    fn fmt<W: fmt::Write>(&self, f: &mut fmt::Formatter<W>) -> fmt::Result {
+        let refusal = self.refusal;
+        let side = self.side;
+        write!(f, "{refusal} {side}")
     }
 }

@@ -11,6 +11,10 @@ pub enum AmountCheck {
     Notional,
 }
 
+// A word that names no check.
+#[derive(Clone, Copy, Debug)]
+pub struct UnknownVerb;
+
 // One of two texts that are compared.
 #[derive(Clone, Copy, Debug)]
 pub enum Side {
@@ -18,10 +22,16 @@ pub enum Side {
     Second,
 }
 
-// Both amounts and whether they match, or why a text was sent back.
+// Two amounts, and whether they match.
 #[derive(Clone, Copy)]
 pub enum Comparison {
     Matches(Amount, Amount),
     Differs(Amount, Amount),
-    Refused(Refusal, Side),
+}
+
+// Why one of the texts was sent back.
+#[derive(Clone, Copy)]
+pub struct SentBack {
+    pub refusal: Refusal,
+    pub side: Side,
 }

@@ -1,10 +1,10 @@
 // recon: answers the calls of a journal, one line after the other.
 #![tactic(auto)]
 
-mod answer;
 mod answers;
 mod compare;
 mod comparison;
+mod fault;
 mod run;
 #[cfg(test)]
 mod tests;
@@ -27,15 +27,14 @@ fn main(rt: HostRuntime) -> anyhow::Result<ExitCode> {
 
 // Runs the named files in order, or standard input where none is named.
 fn run_all(rt: &HostRuntime, run: &mut Run) -> anyhow::Result<()> {
-    let mut named = false;
-    for name in env::args(rt)?.skip(1) {
-        named = true;
-        run_file(rt, run, name.as_str())?;
-    }
-    if !named {
+    let mut names = env::args(rt)?.skip(1).peekable();
+    if names.peek().is_none() {
         let mut journal = Vec::new(rt.alloc());
         rt.stdin().read_to_end(&mut journal)?;
-        run.journal(rt, journal.as_slice())?;
+        return run.journal(rt, journal.as_slice());
+    }
+    for name in names {
+        run_file(rt, run, name.as_str())?;
     }
     Ok(())
 }

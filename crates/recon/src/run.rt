@@ -4,9 +4,9 @@ ghost use Rattle.std.specs.Option.{option_map};
 ghost use Rattle.recon.specs.Answers.{answer_of};
 ghost use Rattle.recon.specs.Runs.{Prints, is_call};
 
-use crate::answer::Answer;
 use crate::answers::answer_line;
-use journal::lines::first_line;
+use crate::fault::Fault;
+use journal::lines::Lines;
 use std::alloc::{AllocError, Global};
 
 // How far a run has come.
@@ -44,32 +44,30 @@ impl Run {
     }
 
     // Takes the next line, and gives what is printed of it.
-    fn step(&mut self, heap: Global, line: &[u8]) -> Result<Option<String>, AllocError>
+    fn step(&mut self, alloc: Global, line: &[u8]) -> Result<Option<String>, AllocError>
         ensures printed { IfOk result (λ o. Prints self.new.lines (answer_of line.now) (option_map string_bytes o)) }
         ensures counted { self.new.lines ≡ min (self.old.lines + 1) (2 ^ 64 - 1) }
         ensures status { OnOk result (self.new.clean ≡ (self.old.clean && is_call (answer_of line.now))) }
     {
         self.lines = self.lines.saturating_add(1);
         let number = self.lines;
-        match answer_line(heap, line)? {
-            Answer::PassedOver => Ok(None),
-            Answer::Answered(text) => Ok(Some(format!(in heap; "{number}: {text}")?)),
-            Answer::NoCall(fault) => {
+        match answer_line(alloc, line) {
+            Ok(None) => Ok(None),
+            Ok(Some(answer)) => Ok(Some(format!(in alloc; "{number}: {answer}")?)),
+            Err(Fault::OutOfMemory(error)) => Err(error),
+            Err(fault) => {
                 self.mark_failed();
-                Ok(Some(format!(in heap; "{number}: ? {fault}")?))
+                Ok(Some(format!(in alloc; "{number}: ? {fault}")?))
             }
         }
     }
 
     // Runs each line of a journal.
     pub fn journal(&mut self, rt: &HostRuntime, journal: &[u8]) -> anyhow::Result<()> {
-        let mut rest = journal;
-        while !rest.is_empty() {
-            let (line, after) = first_line(rest);
+        for line in Lines(journal) {
             if let Some(text) = self.step(rt.alloc(), line)? {
                 rt.println(text)?;
             }
-            rest = after;
         }
         Ok(())
     }
@@ -82,18 +80,18 @@ mod tests {
 
     #[test]
     fn lines_are_numbered_and_faults_remembered(rt: HostRuntime) -> Result<(), Fail> {
-        let heap = rt.alloc();
+        let alloc = rt.alloc();
         let mut run = Run::new();
-        let first = run.step(heap, b"price 1 1.005")?;
+        let first = run.step(alloc, b"price 1 1.005")?;
         assert!(rt; first.is_some());
-        assert!(rt; run.step(heap, b"# a comment")?.is_none());
+        assert!(rt; run.step(alloc, b"# a comment")?.is_none());
         assert!(rt; run.is_clean());
-        let Some(third) = run.step(heap, b"lookup T1")? else {
+        let Some(third) = run.step(alloc, b"lookup T1")? else {
             return Err(Fail::new("nothing printed"));
         };
         assert!(rt; third.as_str() == "3: ? unknown verb lookup");
         assert!(rt; !run.is_clean());
-        let Some(fourth) = run.step(heap, b"price 1 1.005")? else {
+        let Some(fourth) = run.step(alloc, b"price 1 1.005")? else {
             return Err(Fail::new("nothing printed"));
         };
         assert!(rt; fourth.as_str() == "4: price 1 1.005 matches");

@@ -1,18 +1,17 @@
-use Rattle.std.proofs.Common.{ℕ, ◌/◌, ◌%◌, List, [], ◌∷◌, ◌++◌, string_bytes, sym, ap, ◌∙◌, arith}
-use lib.Utf8.{encode}
-use Rattle.std.proofs.lemmas.Bool.{cond-false}
-use Rattle.journal.specs.Escapes.{hex_digit, plain}
-use Rattle.journal.proofs.Inverse.{three_pushed}
+use Rattle.std.proofs.Common.{◌≡◌, ℕ, ◌/◌, ◌%◌, true, false, [], ◌∷◌, Some, ap, ◌∙◌, arith}
+use Rattle.std.proofs.lemmas.Fmt.{hex_byte}
+use Rattle.std.proofs.lemmas.Grind.{common_steps}
+use Rattle.std.specs.Fmt.{styled_digits_output, padded_integral, format_spec}
+use Rattle.std.specs.Option.{option_map}
+use Rattle.journal.specs.Escapes.{hex_digit}
 use Rattle.journal.proofs.escapes.push_escaped.Goals as goal
 
-pub returns : goal.returns
-returns c =
+pub returns-else-is_plain : goal.returns-else-is_plain
+returns-else-is_plain c =
     let b : ℕ = c.args.byte in
-    let before : List ℕ = string_bytes c.args.out.now in
-    three_pushed before (string_bytes c.push-2.new.self) (string_bytes c.push-3.new.self) (string_bytes c.push-4.new.self) (encode 37) (encode c.hex_digit.result) (encode c.hex_digit-2.result) 37 c.hex_digit.result c.hex_digit-2.result
-    c.in_ok-push.ensures.bytes (c.in_ok-push.ensures.ascii (omega arith))
-    c.in_ok-push-2.ensures.bytes (c.in_ok-push-2.ensures.ascii c.hex_digit.ensures.ascii)
-    c.in_ok-push-3.ensures.bytes (c.in_ok-push-3.ensures.ascii c.hex_digit-2.ensures.ascii)
-    ∙ ap (λ (d : ℕ). before ++ (37 ∷ d ∷ c.hex_digit-2.result ∷ [])) c.hex_digit.ensures.value
-    ∙ ap (λ (d : ℕ). before ++ (37 ∷ hex_digit (b / 16) ∷ d ∷ [])) c.hex_digit-2.ensures.value
-    ∙ ap (λ (t : List ℕ). before ++ t) (sym (cond-false (plain b) (b ∷ []) (37 ∷ (hex_digit (b / 16) ∷ (hex_digit (b % 16) ∷ []))) (sym c.if-is_plain.ensures)))
+    let digits : styled_digits_output c.in_radix.result c.laid_out.result ≡ Some (hex_digit (b / 16) ∷ hex_digit (b % 16) ∷ []) =
+    ap (styled_digits_output c.in_radix.result) c.laid_out.ensures
+    ∙ ap (option_map (padded_integral (format_spec 32 0 4 2 18446744073709551615) false [])) c.in_radix.ensures
+    ∙ ap Some (hex_byte true b (omega arith)) in
+    let w = rw digits at c.write.ensures.bytes in
+    grind (arith, common_steps, w, c.if-is_plain.ensures)

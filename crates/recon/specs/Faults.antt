@@ -1,0 +1,26 @@
+-- What keeps a line of a journal from being answered, and the words that tell it.
+use Rattle.std.specs.Prelude.{ℕ, List, ◌++◌, codes, decimal, string_bytes}
+use Rattle.journal.specs.declared.escapes.WordError.{WordError}
+use Rattle.journal.specs.declared.escapes.WordError.TheVariants.{BadEscape as BadWord, OutOfMemory as WordOutOfMemory}
+use Rattle.recon.specs.Outcomes.{verb_text}
+use Rattle.recon.specs.declared.fault.Fault.{Fault}
+use Rattle.recon.specs.declared.fault.Fault.TheVariants.{NoVerb, UnknownVerb, WordCount, BadEscape, OutOfMemory}
+
+abbrev pub fault_of : WordError → Fault
+fault_of (BadWord word) = BadEscape word
+fault_of (WordOutOfMemory error) = OutOfMemory error
+
+abbrev pub fault_text : Fault → List ℕ
+fault_text NoVerb = codes "no verb"
+fault_text (UnknownVerb verb) = codes "unknown verb " ++ string_bytes verb
+fault_text (WordCount check given) = verb_text check ++ (codes " takes 2 words, not " ++ decimal given)
+fault_text (BadEscape text) = codes "bad escape in " ++ string_bytes text
+fault_text (OutOfMemory error) = codes "out of memory"
+
+-- a fact that holds if the line is no call, and not if memory ran out
+abbrev pub IfNoCall : Fault → Type 0 → Type 0
+IfNoCall NoVerb P = P
+IfNoCall (UnknownVerb verb) P = P
+IfNoCall (WordCount check given) P = P
+IfNoCall (BadEscape text) P = P
+IfNoCall (OutOfMemory error) P = Unit {0}

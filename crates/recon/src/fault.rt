@@ -1,0 +1,53 @@
+// What keeps a line of a journal from being answered.
+ghost use Rattle.std.specs.Prelude.{◌≡◌, alloc_error, Some};
+ghost use Rattle.recon.specs.Faults.{fault_of, fault_text};
+ghost use Rattle.recon.specs.declared.fault.Fault.TheVariants.{OutOfMemory};
+
+use crate::comparison::AmountCheck;
+use journal::escapes::WordError;
+use std::alloc::AllocError;
+use std::fmt;
+
+// Why a line was not answered: it is no call, or memory ran out. Words of the line are kept as they may be printed.
+#[derive(Debug, Drop)]
+pub enum Fault {
+    NoVerb,
+    UnknownVerb(String),
+    // how many words stood behind a verb, which takes two
+    WordCount(AmountCheck, usize),
+    BadEscape(String),
+    OutOfMemory(AllocError),
+}
+
+impl From<AllocError> for Fault {
+    ghost from_gives = { λ _ f. f ≡ OutOfMemory alloc_error };
+
+    fn from(error: AllocError) -> Fault {
+        Fault::OutOfMemory(error)
+    }
+}
+
+impl From<WordError> for Fault {
+    ghost from_gives = { λ e f. f ≡ fault_of e };
+
+    fn from(error: WordError) -> Fault {
+        match error {
+            WordError::BadEscape(word) => Fault::BadEscape(word),
+            WordError::OutOfMemory(error) => Fault::OutOfMemory(error),
+        }
+    }
+}
+
+impl fmt::Display for Fault {
+    ghost output = { λ f. Some (fault_text f) };
+
+    fn fmt<W: fmt::Write>(&self, f: &mut fmt::Formatter<W>) -> fmt::Result {
+        match self {
+            Fault::NoVerb => write!(f, "no verb"),
+            Fault::UnknownVerb(verb) => write!(f, "unknown verb {verb}"),
+            Fault::WordCount(verb, given) => write!(f, "{verb} takes 2 words, not {given}"),
+            Fault::BadEscape(word) => write!(f, "bad escape in {word}"),
+            Fault::OutOfMemory(_) => write!(f, "out of memory"),
+        }
+    }
+}
