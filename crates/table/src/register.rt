@@ -4,7 +4,7 @@ ghost use Rattle.refusals.specs.declared.refusal.Refusal.TheVariants.{RegisterDi
 ghost use Rattle.table.specs.Register.{IsRegister};
 
 use crate::order::is_ascending;
-use keys::key::{Key, Keyed};
+use keys::key::Keyed;
 use refusals::refusal::Refusal;
 
 // The most entries that a register may have.
@@ -12,12 +12,9 @@ pub const MOST_ENTRIES: usize = 65_536;
 
 // Refuses a list that is no register: too many entries, or keys that do not ascend strictly.
 pub fn check_register<R: Keyed>(entries: &[R]) -> Result<(), Refusal>
-    ensures { MatchResult result (λ _. IsRegister R.Key.Key.order R.Keyed.id entries.now) (λ e. (e ≡ RegisterDisordered) × (IsRegister R.Key.Key.order R.Keyed.id entries.now → ⊥)) }
+    ensures { MatchResult result (λ _. IsRegister R.Key.cmp R.id entries.now) (λ e. (e ≡ RegisterDisordered) × (IsRegister R.Key.cmp R.id entries.now → ⊥)) }
 {
-    if entries.len() > MOST_ENTRIES {
-        return Err(Refusal::RegisterDisordered);
-    }
-    if !is_ascending(entries) {
+    if entries.len() > MOST_ENTRIES || !is_ascending(entries) {
         return Err(Refusal::RegisterDisordered);
     }
     Ok(())
