@@ -1,9 +1,9 @@
 // A row enters the table at its place.
 ghost use Rattle.std.specs.Prelude.{◌≡◌, suc, ◌<◌, ◌≤◌, length, Err};
-ghost use Rattle.table.specs.Changes.{Inserts, PutIn};
+ghost use Rattle.table.specs.Changes.{Inserts, PutIn, used_after};
 ghost use Rattle.table.specs.Order.{Ascending, keys, place};
 
-use crate::order::find_used;
+use crate::container::Table;
 use keys::key::Keyed;
 
 // Why a row did not enter.
@@ -26,17 +26,21 @@ fn put_in<R: Keyed>(rows: &mut [R], used: usize, at: usize, row: R)
     rows[at] = row;
 }
 
-// Enters a row at its place among the used rows, unless its key is known or no blank is left.
-// The answer is the place, and the rows behind it moved up by one.
-pub fn insert<R: Keyed>(rows: &mut [R], used: usize, row: R) -> Result<usize, NotEntered>
-    ensures { Inserts R.Key.cmp R.id used rows.old row rows.new result }
-{
-    match find_used(rows, used, row.key()) {
-        Ok(at) => Err(NotEntered::Known(at)),
-        Err(_) if used >= rows.len() => Err(NotEntered::Full),
-        Err(at) => {
-            put_in(rows, used, at, row);
-            Ok(at)
+impl<'t, R: Keyed> Table<&'t mut [R]> {
+    // Enters a row at its place, unless its key is known or no blank is left.
+    pub fn insert(&mut self, row: R) -> Result<usize, NotEntered>
+        ensures lent { self.new.rows.ghost_name ≡ self.old.rows.ghost_name }
+        ensures count { self.new.used ≡ used_after self.old.used result }
+        ensures rows { Inserts R.Key.cmp R.id self.old.used self.old.rows.now row self.new.rows.now result }
+    {
+        match self.find(row.key()) {
+            Ok(at) => Err(NotEntered::Known(at)),
+            Err(_) if self.used >= self.rows.len() => Err(NotEntered::Full),
+            Err(at) => {
+                put_in(self.rows, self.used, at, row);
+                self.used += 1;
+                Ok(at)
+            }
         }
     }
 }

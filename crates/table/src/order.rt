@@ -1,6 +1,6 @@
 // Rows in the order of their keys: the test of the order, and the search that it allows.
 ghost use Rattle.std.specs.Prelude.{◌≡◌, ◌<◌, ◌≤◌, map, length, Decides, MatchResult};
-ghost use Rattle.table.specs.Order.{Answers, Ascending, Finds, place};
+ghost use Rattle.table.specs.Order.{Answers, Ascending, place};
 
 use keys::key::Keyed;
 
@@ -11,13 +11,6 @@ pub fn find<R: Keyed>(rows: &[R], key: &R::Key) -> Result<usize, usize>
     ensures law { Ascending R.Key.cmp (map R.id rows.now) → Answers R.Key.cmp (map R.id rows.now) key.now result }
 {
     rows.binary_search_by(|row| row.key().cmp(key))
-}
-
-// The same among the used rows, which stand in front.
-pub(crate) fn find_used<R: Keyed>(rows: &[R], used: usize, key: &R::Key) -> Result<usize, usize>
-    ensures { Finds R.Key.cmp R.id used rows.now key.now result }
-{
-    find(&rows[..used.min(rows.len())], key)
 }
 
 // Whether the keys of the rows ascend strictly.

@@ -1,8 +1,9 @@
 // Registers: lists that a host lends to be read, in the order of their keys.
-ghost use Rattle.std.specs.Prelude.{◌≡◌, MatchResult};
+ghost use Rattle.std.specs.Prelude.{◌≡◌, length, MatchResult};
 ghost use Rattle.refusals.specs.declared.refusal.Refusal.TheVariants.{RegisterDisordered};
 ghost use Rattle.table.specs.Register.{IsRegister};
 
+use crate::container::Table;
 use crate::order::is_ascending;
 use keys::key::Keyed;
 use refusals::refusal::Refusal;
@@ -18,4 +19,17 @@ pub fn check_register<R: Keyed>(entries: &[R]) -> Result<(), Refusal>
         return Err(Refusal::RegisterDisordered);
     }
     Ok(())
+}
+
+impl<'t, R: Keyed> Table<&'t [R]> {
+    // A register, whose entries are all used. A list that is none is refused.
+    pub fn register(entries: &'t [R]) -> Result<Self, Refusal>
+        ensures { MatchResult result (λ t. (t.used ≡ length entries.now) × (t.rows.now ≡ entries.now) × IsRegister R.Key.cmp R.id entries.now) (λ e. (e ≡ RegisterDisordered) × (IsRegister R.Key.cmp R.id entries.now → ⊥)) }
+    {
+        check_register(entries)?;
+        Ok(Table {
+            rows: entries,
+            used: entries.len(),
+        })
+    }
 }
