@@ -1,52 +1,48 @@
 -- The laws of codes.
-use Rattle.std.proofs.Common.{◌≡◌, ℕ, suc, ◌+◌, ◌-◌, Bool, true, false, cond, ◌&&◌, ltb, leb, List, [], ◌∷◌, ◌++◌, length, get_or, Some, None, Ordering, Less, Equal, Greater, sym, refl, ap, ◌∙◌, true≢false, arith}
+use Rattle.std.proofs.Common.{◌≡◌, ℕ, ◌-◌, Bool, true, cond, ◌&&◌, ltb, leb, List, [], ◌∷◌, ◌++◌, length, get_or, Some, None, Ordering, Less, Equal, Greater, sym, refl, ap, ◌∙◌, true≢false, arith}
 use Rattle.std.specs.Ordering.{is_eq, ordering_then, nat_cmp}
-use Rattle.std.specs.List.{prefix_len, AllByRecursion}
+use Rattle.std.specs.List.{list_all, AllByRecursion}
 use Rattle.std.proofs.lemmas.Cmp.{nat_list_cmp_total}
-use Rattle.std.proofs.lemmas.Bool.{and_from, and_parts, eq-eqb, eqb-true, le-leb, leb-true, lt-ltb, ltb-true}
+use Rattle.std.proofs.lemmas.Bool.{and_from, and_parts, le-leb, leb-true, lt-ltb, ltb-true}
 use Rattle.std.proofs.lemmas.Bool.Decides.{nat_tests}
-use Rattle.codes.specs.Alphabets.{in_alphabet, end_byte}
+use Rattle.codes.specs.Alphabets.{Letters}
 use Rattle.codes.specs.Codes.{text_of, text_order}
-use Rattle.codes.specs.Laws.{CodeLaws, IsCode}
+use Rattle.codes.specs.Laws.{CodeForms, CodeLaws, IsCode}
 use Rattle.codes.specs.Rules.{code_of, ends_well, keeps, spelled}
 use Rattle.codes.proofs.Filled.{non_zero_lem}
 use Rattle.codes.proofs.Ordered.{one_place, same_byte, same_text}
 
 -- ---- the rule
 
-all_step : (b : Bool) (n len : ℕ) {P : Type 0} → (n ≡ len → P) → cond b (1 + n) 0 ≡ suc len → (b ≡ true) × P
-all_step true n len f h = (refl, f (omega arith))
-all_step false n len f h = absurd (omega arith)
-
-all_passed : (p : ℕ → Bool) (xs : List ℕ) → prefix_len p xs ≡ length xs → AllByRecursion (λ b. p b ≡ true) xs
+all_passed : (p : ℕ → Bool) (xs : List ℕ) → list_all p xs ≡ true → AllByRecursion (λ b. p b ≡ true) xs
 all_passed p [] h = tt
-all_passed p (x ∷ xs) h = all_step (p x) (prefix_len p xs) (length xs) (all_passed p xs) h
+all_passed p (x ∷ xs) h = let parts = and_parts (p x) (list_all p xs) h in (parts.0, all_passed p xs parts.1)
 
-passed_all : (p : ℕ → Bool) (xs : List ℕ) → AllByRecursion (λ b. p b ≡ true) xs → prefix_len p xs ≡ length xs
+passed_all : (p : ℕ → Bool) (xs : List ℕ) → AllByRecursion (λ b. p b ≡ true) xs → list_all p xs ≡ true
 passed_all p [] h = refl
-passed_all p (x ∷ xs) h = ap (λ (b : Bool). cond b (1 + prefix_len p xs) 0) h.0 ∙ omega (arith, passed_all p xs h.1)
+passed_all p (x ∷ xs) h = and_from _ _ h.0 (passed_all p xs h.1)
 
-from_test : (alphabet least most : ℕ) (text : List ℕ) → keeps alphabet least most text ≡ true → IsCode alphabet least most text
+from_test : (alphabet : Letters) (least most : ℕ) (text : List ℕ) → keeps alphabet least most text ≡ true → IsCode alphabet least most text
 from_test alphabet least most text h =
     let one = and_parts (leb least (length text)) (leb (length text) most && (spelled alphabet text && ends_well alphabet text)) h in
     let two = and_parts (leb (length text) most) (spelled alphabet text && ends_well alphabet text) one.1 in
     let three = and_parts (spelled alphabet text) (ends_well alphabet text) two.1 in
-    let four = and_parts (ltb 0 (length text)) (end_byte alphabet (get_or text 0 0) && end_byte alphabet (get_or text (length text - 1) 0)) three.1 in
-    let five = and_parts (end_byte alphabet (get_or text 0 0)) (end_byte alphabet (get_or text (length text - 1) 0)) four.1 in
+    let four = and_parts (ltb 0 (length text)) (alphabet.ends (get_or text 0 0) && alphabet.ends (get_or text (length text - 1) 0)) three.1 in
+    let five = and_parts (alphabet.ends (get_or text 0 0)) (alphabet.ends (get_or text (length text - 1) 0)) four.1 in
     record {
       some = ltb-true 0 (length text) four.0;
       long = leb-true least (length text) one.0;
       short = leb-true (length text) most two.0;
-      all = all_passed (in_alphabet alphabet) text (eqb-true (prefix_len (in_alphabet alphabet) text) (length text) three.0);
+      all = all_passed alphabet.has text three.0;
       first = five.0;
       last = five.1;
     }
 
-to_test : (alphabet least most : ℕ) (text : List ℕ) → IsCode alphabet least most text → keeps alphabet least most text ≡ true
+to_test : (alphabet : Letters) (least most : ℕ) (text : List ℕ) → IsCode alphabet least most text → keeps alphabet least most text ≡ true
 to_test alphabet least most text h =
     and_from _ _ (le-leb least (length text) h.long)
     (and_from _ _ (le-leb (length text) most h.short)
-    (and_from _ _ (eq-eqb (prefix_len (in_alphabet alphabet) text) (length text) (passed_all (in_alphabet alphabet) text h.all))
+    (and_from _ _ (passed_all alphabet.has text h.all)
     (and_from _ _ (lt-ltb 0 (length text) h.some) (and_from _ _ h.first h.last))))
 
 -- ---- the order
@@ -71,17 +67,21 @@ before_more : (s t : List ℕ) (b : ℕ) → text_order s (s ++ (b ∷ t)) ≡ L
 before_more [] t b = refl
 before_more (x ∷ s) t b = ap (λ (o : Ordering). ordering_then o (text_order s (s ++ (b ∷ t)))) (same_byte x) ∙ before_more s t b
 
-reads : (alphabet least most : ℕ) (text : List ℕ) → keeps alphabet least most text ≡ true → code_of alphabet least most text ≡ Some text
+reads : (alphabet : Letters) (least most : ℕ) (text : List ℕ) → keeps alphabet least most text ≡ true → code_of alphabet least most text ≡ Some text
 reads alphabet least most text h = ap (λ (b : Bool). cond b (Some text) None) h
 
 pub laws : CodeLaws
 laws = record {
   plain = λ alphabet least most text. (from_test alphabet least most text, to_test alphabet least most text);
   no_zero = λ alphabet h. true≢false (sym (non_zero_lem alphabet 0 h));
-  one_form = λ {alphabet} {least} {most} a b e. one_place most a.bytes b.bytes a.filled b.filled e;
-  reads_back = λ {alphabet} {least} {most} a. reads alphabet least most (text_of a) a.rule;
   flip = nat_list_cmp_total.antisymm;
   transitive = nat_list_cmp_total.trans;
   equal = λ s t. (same_from s t, λ e. ap (λ (x : List ℕ). is_eq (text_order x t)) e ∙ ap is_eq (same_text t));
   beginning = before_more;
+}
+
+pub forms : {A : _} {least most : _} {m : _} → CodeForms A least most m
+forms {A} {least} {most} {m} = record {
+  one_form = λ a b e. one_place most a.bytes b.bytes a.filled b.filled e;
+  reads_back = λ a. reads m.letters least most (text_of a) a.rule;
 }

@@ -1,20 +1,16 @@
 -- Texts and the places that hold them sort alike.
-use Rattle.std.proofs.Common.{◌≡◌, ℕ, zero, suc, ◌+◌, ◌-◌, ◌≤◌, Bool, true, false, cond, List, [], ◌∷◌, ◌++◌, length, take, replicate, Decides, Ordering, Less, Equal, Greater, sym, refl, ap, ◌∙◌, subst, one-add, arith}
+use Rattle.std.proofs.Common.{◌≡◌, ℕ, zero, suc, ◌+◌, ◌-◌, ◌≤◌, Bool, true, false, cond, List, [], ◌∷◌, ◌++◌, length, replicate, Ordering, Less, Equal, Greater, sym, refl, ap, ◌∙◌, subst, arith}
 use Rattle.std.specs.Ordering.{ordering_then, nat_cmp}
 use Rattle.std.specs.List.{prefix_len, AllByRecursion}
 use Rattle.std.proofs.lemmas.Bool.Decides.{nat_tests}
-use Rattle.std.specs.Str.{bytes_eq}
-use Rattle.std.specs.Cmp.{both_ways}
-use Rattle.std.proofs.lemmas.Slice.Eq.{bytes_eq-Decides}
-use Rattle.codes.specs.Codes.{text_order}
-use Rattle.codes.specs.Rules.{non_zero, text_in, ZeroFilled}
+use Rattle.codes.specs.Codes.{text_of, text_order}
+use Rattle.codes.specs.declared.code.Code.{Code}
+use Rattle.std.specs.Coded.{Coded-set, coded_ℕ, coded_bool, coded_list}
+use Rattle.codes.specs.Rules.{keeps, non_zero, text_in, ZeroFilled}
+use Rattle.codes.proofs.Filled.{parts_of_rule, text_cons}
 
 abbrev NoZero : List ℕ → Type 0
 NoZero text = AllByRecursion (λ b. non_zero b ≡ true) text
-
-text_cons : (b : Bool) (n x : ℕ) (xs : List ℕ) → take (cond b (1 + n) 0) (x ∷ xs) ≡ cond b (x ∷ take n xs) []
-text_cons true n x xs = ap (λ (k : ℕ). take k (x ∷ xs)) (one-add n)
-text_cons false n x xs = refl
 
 kept : (b : Bool) (x : ℕ) (xs : List ℕ) → non_zero x ≡ b → NoZero xs → NoZero (cond b (x ∷ xs) [])
 kept true x xs e h = (e, h)
@@ -62,8 +58,11 @@ order_of_places most a b p q f g =
 pub one_place : (most : ℕ) (a b : List ℕ) → ZeroFilled most a → ZeroFilled most b → text_in a ≡ text_in b → a ≡ b
 one_place most a b p q e = p ∙ ap (λ (t : List ℕ). t ++ replicate (most - length t) 0) e ∙ sym q
 
-pub same_places : (most : ℕ) (a b : List ℕ) → ZeroFilled most a → ZeroFilled most b → bytes_eq a b ≡ bytes_eq (text_in a) (text_in b)
-same_places most a b p q =
-    let whole : Decides (bytes_eq a b) (a ≡ b) = bytes_eq-Decides a b in
-    let texts : Decides (bytes_eq (text_in a) (text_in b)) (text_in a ≡ text_in b) = bytes_eq-Decides (text_in a) (text_in b) in
-    both_ways _ _ (λ t. texts.1 (ap text_in (whole.0 t))) (λ t. whole.1 (one_place most a b p q (texts.0 t)))
+pub codes_in_order : {A : _} {least most : _} {m : _} (a b : Code A least most m) → text_order a.bytes b.bytes ≡ text_order (text_of a) (text_of b)
+codes_in_order {A} {least} {most} {m} a b =
+    order_of_places most a.bytes b.bytes a.filled b.filled (parts_of_rule m.letters least most (text_of a) a.rule).1 (parts_of_rule m.letters least most (text_of b) b.rule).1
+
+-- a code is its bytes: what is known of them has one proof
+pub same_code : {A : _} {least most : _} {m : _} (c : Code A least most m) (rule : keeps m.letters least most (text_of c) ≡ true) (filled : ZeroFilled most c.bytes) → record { bytes = c.bytes; alphabet = c.alphabet; rule = rule; filled = filled } ≡ c
+same_code c rule filled =
+    λ i. record { bytes = c.bytes; alphabet = c.alphabet; rule = Coded-set coded_bool _ _ rule c.rule i; filled = Coded-set (coded_list coded_ℕ) _ _ filled c.filled i }

@@ -7,7 +7,7 @@ use Rattle.codes.specs.Rules.{text_in}
 use Rattle.std.specs.Ordering.{nat_cmp}
 use Rattle.std.specs.Cmp.Lexicographic.{slice_cmp}
 
-abbrev pub text_of : {alphabet least most : ℕ} → Code alphabet least most → List ℕ
+abbrev pub text_of : {A : _} {least most : _} {m : _} → Code A least most m → List ℕ
 text_of c = text_in c.bytes
 
 -- texts in order: byte by byte, and a beginning before its continuation

@@ -1,5 +1,5 @@
 // Texts of one alphabet and a bounded length, held by value.
-ghost use Rattle.std.specs.Prelude.{◌≡◌, true};
+ghost use Rattle.std.specs.Prelude.{◌≡◌, true, ⊤};
 ghost use Rattle.codes.specs.Rules.{keeps, text_in, ZeroFilled};
 
 pub mod kinds;
@@ -7,40 +7,50 @@ pub mod laws;
 pub mod lei;
 pub mod order;
 pub mod read;
-mod rule;
 pub mod venue;
 
-// The bytes A to Z.
-pub const CAPITALS: u8 = 0;
-// The bytes A to Z and 0 to 9.
-pub const CAPITALS_AND_DIGITS: u8 = 1;
-// The bytes that print, from the blank to '~'.
-pub const PRINTABLE: u8 = 2;
-// Letters of either case, digits and `.` `-` `_` `:`. The first and the last byte are a letter or a digit.
-pub const TRADE_ID_BYTES: u8 = 3;
+use crate::alphabet::{Alphabet, Capitals, CapitalsAndDigits, Printable, TradeIdBytes};
+use std::alloc::AllocError;
+use std::marker::PhantomData;
 
 // A text of `LEAST` to `MOST` bytes of an alphabet. Zeros fill the places behind it, and no alphabet has the zero,
 // so the text needs no length beside it and has one representation.
-#[derive(Clone, Copy, Debug)]
-pub struct Code<const ALPHABET: u8, const LEAST: usize, const MOST: usize> {
+#[derive_where(Copy, Debug)]
+pub struct Code<A: Alphabet, const LEAST: usize, const MOST: usize> {
     bytes: [u8; MOST],
-    ghost rule: { keeps ALPHABET LEAST MOST (text_in bytes) ≡ true },
+    alphabet: PhantomData<A>,
+    ghost rule: { keeps A.letters LEAST MOST (text_in bytes) ≡ true },
     ghost filled: { ZeroFilled MOST bytes },
 }
 
+// By hand: a derive clones field by field under a type parameter, and is refused where a ghost field ties the fields.
+impl<A: Alphabet, const LEAST: usize, const MOST: usize> Clone for Code<A, LEAST, MOST> {
+    ghost is_clone = { λ code copy. copy ≡ code };
+
+    ghost is_infallible = { λ _. ⊤ };
+
+    fn clone(&self) -> Result<Self, AllocError> {
+        let bytes = self.bytes;
+        Ok(Code {
+            bytes,
+            alphabet: PhantomData,
+        })
+    }
+}
+
 // The unique name that both sides give a trade.
-pub type TradeId = Code<TRADE_ID_BYTES, 1, 52>;
+pub type TradeId = Code<TradeIdBytes, 1, 52>;
 // A legal entity identifier, by ISO 17442.
-pub type Lei = Code<CAPITALS_AND_DIGITS, 20, 20>;
+pub type Lei = Code<CapitalsAndDigits, 20, 20>;
 // A counterparty's own code for a client without an LEI.
-pub type ClientCode = Code<CAPITALS_AND_DIGITS, 1, 20>;
+pub type ClientCode = Code<CapitalsAndDigits, 1, 20>;
 // A country, by ISO 3166.
-pub type Country = Code<CAPITALS, 2, 2>;
+pub type Country = Code<Capitals, 2, 2>;
 // A currency, by ISO 4217.
-pub type Currency = Code<CAPITALS, 3, 3>;
+pub type Currency = Code<Capitals, 3, 3>;
 // A trading venue, by ISO 10383.
-pub type Venue = Code<CAPITALS_AND_DIGITS, 4, 4>;
+pub type Venue = Code<CapitalsAndDigits, 4, 4>;
 // What names the product.
-pub type ProductId = Code<PRINTABLE, 1, 64>;
+pub type ProductId = Code<Printable, 1, 64>;
 // What names the product's underlying. It keeps the product's rule, so the two are one type.
-pub type UnderlyingId = Code<PRINTABLE, 1, 64>;
+pub type UnderlyingId = Code<Printable, 1, 64>;

@@ -7,21 +7,19 @@ ghost use Rattle.codes.specs.Codes.{text_of};
 ghost use Rattle.codes.specs.Hosts.{field_of};
 ghost use Rattle.codes.specs.Values.{capitals, capitals_and_digits};
 
+use crate::alphabet::Alphabet;
 use crate::code::{Code, Country, Lei};
 use refusals::refusal::Refusal;
 use refusals::tag::Tag;
 
 // The code of a field's text, or a refusal that names the field.
-fn read_field<const ALPHABET: u8, const LEAST: usize, const MOST: usize>(
+fn read_field<A: Alphabet, const LEAST: usize, const MOST: usize>(
     text: &[u8],
     tag: Tag,
-) -> Result<Code<ALPHABET, LEAST, MOST>, Refusal>
-    ensures { result_map_both text_of parts_of result ≡ field_of ALPHABET LEAST MOST tag text.now }
+) -> Result<Code<A, LEAST, MOST>, Refusal>
+    ensures { result_map_both text_of parts_of result ≡ field_of A.letters LEAST MOST tag text.now }
 {
-    match Code::read(text) {
-        Ok(code) => Ok(code),
-        Err(_) => Err(Refusal::BadField(tag)),
-    }
+    Code::read(text).map_err(|_| Refusal::BadField(tag))
 }
 
 // The LEI of an entry of the register.

@@ -1,6 +1,7 @@
 // Coded texts: values that keep their rule from the moment they are read.
 #![tactic(auto)]
 
+pub mod alphabet;
 pub mod code;
 pub mod host;
 

@@ -3,13 +3,17 @@ ghost use Rattle.std.specs.Prelude.{◌≡◌};
 ghost use Rattle.codes.specs.Codes.{text_of};
 
 use super::{ClientCode, Code, Lei};
+use std::marker::PhantomData;
 
-impl Lei {
-    // The same text as a client code, the type that holds either kind.
-    pub fn as_client_code(&self) -> ClientCode
-        ensures { text_of result ≡ text_of self.now }
-    {
-        let bytes = self.bytes;
-        Code { bytes }
+// The same text as a client code, the type that holds either kind.
+impl From<Lei> for ClientCode {
+    ghost from_gives = { λ lei code. text_of code ≡ text_of lei };
+
+    fn from(lei: Lei) -> ClientCode {
+        let bytes = lei.bytes;
+        Code {
+            bytes,
+            alphabet: PhantomData,
+        }
     }
 }

@@ -1,74 +1,83 @@
 // Reads a code from text, and gives its text back.
-ghost use Rattle.std.specs.Prelude.{◌≡◌, ◌-◌, ◌≤◌, true, ◌++◌, length, replicate};
+ghost use Rattle.std.specs.Prelude.{◌≡◌, Some, codes};
+ghost use Rattle.std.specs.List.{prefix_len};
 ghost use Rattle.std.specs.Option.{option_map};
 ghost use Rattle.std.specs.Result.{result_ok};
 ghost use Rattle.codes.specs.Codes.{text_of};
-ghost use Rattle.codes.specs.Rules.{code_of, keeps, non_zero};
+ghost use Rattle.codes.specs.Rules.{code_of, ends_well, keeps, non_zero, spelled};
 
 use super::Code;
-use super::rule::keeps_rule;
-use texts::runs::{ByteClass, run_len};
+use crate::alphabet::Alphabet;
+use std::error::Error;
+use std::fmt;
+use std::marker::PhantomData;
 
 // The text breaks the rule of its value.
 #[derive(Clone, Copy, Debug, PartialEq, Eq)]
 pub struct NotACode;
 
-// The bytes of a text, which the zeros behind it are not.
-#[derive(Clone, Copy)]
-struct NonZero;
+impl fmt::Display for NotACode {
+    ghost output = { λ _. Some (codes "text breaks the rule of its value") };
 
-impl ByteClass for NonZero {
-    ghost holds = { λ _. non_zero };
-
-    fn has(&self, byte: u8) -> bool {
-        byte != 0
+    fn fmt<W: fmt::Write>(&self, f: &mut fmt::Formatter<W>) -> fmt::Result {
+        f.write_str("text breaks the rule of its value")
     }
 }
 
-// A text, and zeros behind it.
-fn zero_filled<const MOST: usize>(text: &[u8]) -> [u8; MOST]
-    requires { length text.now ≤ MOST }
-    ensures { result ≡ text.now ++ replicate (MOST - length text.now) 0 }
+impl Error for NotACode {}
+
+// Whether a text has a first and a last byte that may stand there.
+fn ends_well<A: Alphabet>(text: &[u8]) -> bool
+    ensures { result ≡ ends_well A.letters text.now }
 {
-    let mut bytes = [0; MOST];
-    for (i, byte) in text.iter().enumerate() {
-        bytes[i] = *byte;
+    match text {
+        [first, .., last] => A::may_end(*first) && A::may_end(*last),
+        [only] => A::may_end(*only),
+        [] => false,
     }
-    bytes
 }
 
-impl<const ALPHABET: u8, const LEAST: usize, const MOST: usize> Code<ALPHABET, LEAST, MOST> {
+// Whether every byte of a text is of the alphabet.
+fn is_spelled<A: Alphabet>(text: &[u8]) -> bool
+    ensures { result ≡ spelled A.letters text.now }
+{
+    text.iter().all(|b| A::has(*b))
+}
+
+impl<A: Alphabet, const LEAST: usize, const MOST: usize> Code<A, LEAST, MOST> {
     // Whether a text keeps the rule.
     pub fn accepts(text: &[u8]) -> bool
-        ensures { result ≡ keeps ALPHABET LEAST MOST text.now }
+        ensures { result ≡ keeps A.letters LEAST MOST text.now }
     {
-        keeps_rule(ALPHABET, LEAST, MOST, text)
+        let n = text.len();
+        LEAST <= n && n <= MOST && is_spelled::<A>(text) && ends_well::<A>(text)
     }
 
     // The code of this text.
     pub fn read(text: &[u8]) -> Result<Self, NotACode>
-        ensures { option_map text_of (result_ok result) ≡ code_of ALPHABET LEAST MOST text.now }
+        ensures { option_map text_of (result_ok result) ≡ code_of A.letters LEAST MOST text.now }
     {
         if !Self::accepts(text) {
             return Err(NotACode);
         }
-        Ok(Self::of_text(text))
+        let mut bytes = [0; MOST];
+        bytes[..text.len()].copy_from_slice(text);
+        Ok(Code {
+            bytes,
+            alphabet: PhantomData,
+        })
     }
 
-    fn of_text(text: &[u8]) -> Self
-        requires { keeps ALPHABET LEAST MOST text.now ≡ true }
-        ensures { text_of result ≡ text.now }
+    fn len(&self) -> usize
+        ensures { result ≡ prefix_len non_zero self.now.bytes }
     {
-        let bytes = zero_filled(text);
-        Code { bytes }
+        self.bytes.iter().take_while(|b| **b != 0).count()
     }
 
     // The text.
     pub fn bytes(&self) -> &[u8]
         ensures { result.now ≡ text_of self.now }
     {
-        let all = &self.bytes[..];
-        let len = run_len(all, &NonZero);
-        &all[0..len]
+        &self.bytes[..self.len()]
     }
 }

@@ -1,0 +1,75 @@
+// Alphabets of coded texts.
+ghost use Rattle.std.specs.Prelude.{◌≡◌};
+ghost use Rattle.codes.specs.Alphabets.{Letters};
+ghost use Rattle.codes.specs.Values.{capitals, capitals_and_digits, printable, trade_id_bytes};
+
+// The bytes that a text may have, and those among them that may stand first and last.
+pub trait Alphabet {
+    ghost letters: { Letters };
+
+    fn has(byte: u8) -> bool
+        ensures { result ≡ letters.has byte };
+
+    fn may_end(byte: u8) -> bool
+        ensures { result ≡ letters.ends byte };
+}
+
+// The bytes A to Z.
+pub struct Capitals;
+
+impl Alphabet for Capitals {
+    ghost letters = { capitals };
+
+    fn has(byte: u8) -> bool {
+        byte.is_ascii_uppercase()
+    }
+
+    fn may_end(byte: u8) -> bool {
+        Self::has(byte)
+    }
+}
+
+// The bytes A to Z and 0 to 9.
+pub struct CapitalsAndDigits;
+
+impl Alphabet for CapitalsAndDigits {
+    ghost letters = { capitals_and_digits };
+
+    fn has(byte: u8) -> bool {
+        byte.is_ascii_uppercase() || byte.is_ascii_digit()
+    }
+
+    fn may_end(byte: u8) -> bool {
+        Self::has(byte)
+    }
+}
+
+// The bytes that print, from the blank to '~'.
+pub struct Printable;
+
+impl Alphabet for Printable {
+    ghost letters = { printable };
+
+    fn has(byte: u8) -> bool {
+        matches!(byte, b' '..=b'~')
+    }
+
+    fn may_end(byte: u8) -> bool {
+        Self::has(byte)
+    }
+}
+
+// Letters of either case, digits and `.` `-` `_` `:`. The first and the last byte are a letter or a digit.
+pub struct TradeIdBytes;
+
+impl Alphabet for TradeIdBytes {
+    ghost letters = { trade_id_bytes };
+
+    fn has(byte: u8) -> bool {
+        Self::may_end(byte) || matches!(byte, b'.' | b'-' | b'_' | b':')
+    }
+
+    fn may_end(byte: u8) -> bool {
+        byte.is_ascii_alphanumeric()
+    }
+}
