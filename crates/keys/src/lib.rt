@@ -1,4 +1,5 @@
 // Keys: what a row of an ordered table is found by.
 #![tactic(auto)]
 
+pub mod coded;
 pub mod key;
