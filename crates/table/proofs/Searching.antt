@@ -1,13 +1,14 @@
 -- Where a key stands in an ascending list.
 use Rattle.std.proofs.Common.{◌≡◌, ℕ, zero, suc, ◌+◌, ◌<◌, ◌≤◌, Bool, true, false, Decides, List, [], ◌∷◌, map, min, length, get_or, take, Ok, Err, Result, Ordering, Less, Equal, Greater, sym, refl, ap, ◌∙◌, subst, ⊎_elim, arith, MatchResult}
 use Rattle.std.proofs.lemmas.Bool.{cases_lt, cases_order}
-use Rattle.std.proofs.lemmas.Cmp.{tied_back}
+use Rattle.std.proofs.lemmas.Cmp.{on_total, tied_back}
 use Rattle.std.proofs.lemmas.List.{get_or-map, length-map, length-take, take_all}
 use Rattle.std.proofs.lemmas.List.Sorted.{searchable_from_sorted}
+use Rattle.std.proofs.lemmas.Map.Keys.{Less-from_sorted, sorted_from_all_adjacent}
 use Rattle.std.specs.Cmp.{IsTotalOrder}
 use Rattle.std.specs.List.{AllAdjacentBelow, AllPairs, IsAllAdjacentAnswer}
 use Rattle.std.specs.List.Sorted.{IsBinarySearchResult, IsPartitionPoint, IsSearchInRange}
-use Rattle.std.specs.Ordering.{is_lt, ordering_reverse}
+use Rattle.std.specs.Ordering.{is_lt, on, ordering_reverse}
 use Rattle.table.specs.Order.{Answers, Ascending, MissingAt, StandsAt, place, past}
 
 -- the keys below the place i are less, and those from there on are greater
@@ -146,14 +147,7 @@ module _ {K : Type 0} {cmp : K → K → Ordering} (total : IsTotalOrder cmp) wh
 -- rows of which each is less than the next
 module _ {X K : Type 0} {cmp : K → K → Ordering} (total : IsTotalOrder cmp) (id : X → K) where
   far : (xs : List X) → AllAdjacentBelow (λ x y. is_lt (cmp (id x) (id y)) ≡ true) xs (length xs) → AllPairs (λ x y. cmp (id x) (id y) ≡ Less) xs
-  far xs steps i zero d lt h = absurd (omega arith)
-  far xs steps i (suc j) d lt h =
-      let one : suc j ≡ j + 1 = omega arith in
-      let last : cmp (id (get_or xs j d)) (id (get_or xs (suc j) d)) ≡ Less = rw one (less_tested _ (steps j d (omega arith))) in
-      ⊎_elim
-      (λ l. total.trans _ _ _ (far xs steps i j d l (omega arith)) last)
-      (λ g. let e : i ≡ j = omega arith in rw e last)
-      (cases_lt i j)
+  far xs steps i j d lt h = Less-from_sorted (on id cmp) xs i j d (sorted_from_all_adjacent (on_total id total) xs d (λ n m. less_tested _ (steps n d m))) lt h
 
   unstepped : (xs : List X) (n : ℕ) → n + 1 < length xs → ((d : X) → false ≡ is_lt (cmp (id (get_or xs n d)) (id (get_or xs (n + 1) d)))) → Ascending cmp (map id xs) → ⊥
   unstepped [] n h a up = omega arith

@@ -1,5 +1,5 @@
 -- What the changes of a table leave: the used rows come first, then blanks, then what is past the table.
-use Rattle.std.specs.Prelude.{◌≡◌, ℕ, suc, ◌+◌, ◌-◌, ◌<◌, ◌≤◌, Bool, false, not, List, ◌++◌, length, take, drop, replicate, is_ok, Ok, Err, Result, filter, slice_index_or}
+use Rattle.std.specs.Prelude.{◌≡◌, ℕ, suc, ◌+◌, ◌-◌, ◌<◌, ◌≤◌, Bool, false, not, List, ◌++◌, length, take, drop, replicate, is_ok, Ok, Err, Result, filter, slice_index_or, codes, decimal}
 use Rattle.std.specs.List.{insert}
 use Rattle.std.specs.declared.cmp.Ordering.{Ordering}
 use Rattle.table.specs.declared.insertion.NotEntered.{NotEntered}
@@ -40,6 +40,11 @@ Inserts cmp id used xs x ys (Err Full) = (ys ≡ xs) × (length xs ≤ used) × 
 abbrev pub used_after : ℕ → Result ℕ NotEntered → ℕ
 used_after used (Ok i) = suc used
 used_after used (Err e) = used
+
+-- what the refusal of a row says
+abbrev pub not_entered_text : NotEntered → List ℕ
+not_entered_text (Known i) = codes "key known at place " ++ decimal i
+not_entered_text Full = codes "no blank left"
 
 -- the rows that are not freed, in their order
 abbrev pub kept : {X : Type 0} → (X → Bool) → List X → List X

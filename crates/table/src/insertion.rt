@@ -1,10 +1,12 @@
 // A row enters the table at its place.
-ghost use Rattle.std.specs.Prelude.{◌≡◌, suc, ◌<◌, ◌≤◌, length, Err};
-ghost use Rattle.table.specs.Changes.{Inserts, PutIn, used_after};
+ghost use Rattle.std.specs.Prelude.{◌≡◌, suc, ◌<◌, ◌≤◌, length, Err, Some};
+ghost use Rattle.table.specs.Changes.{Inserts, PutIn, not_entered_text, used_after};
 ghost use Rattle.table.specs.Order.{Ascending, keys, place};
 
 use crate::container::Table;
 use keys::key::Keyed;
+use std::error::Error;
+use std::fmt;
 
 // Why a row did not enter.
 #[derive(Clone, Copy, Debug, PartialEq, Eq)]
@@ -14,6 +16,19 @@ pub enum NotEntered {
     // Its key is new, and no blank is left.
     Full,
 }
+
+impl fmt::Display for NotEntered {
+    ghost output = { λ e. Some (not_entered_text e) };
+
+    fn fmt<W: fmt::Write>(&self, f: &mut fmt::Formatter<W>) -> fmt::Result {
+        match self {
+            NotEntered::Known(at) => write!(f, "key known at place {at}"),
+            NotEntered::Full => f.write_str("no blank left"),
+        }
+    }
+}
+
+impl Error for NotEntered {}
 
 // Puts a row at a place among the used rows; those behind it move up by one.
 fn put_in<R: Keyed>(rows: &mut [R], used: usize, at: usize, row: R)
