@@ -6,6 +6,7 @@ use crate::container::Table;
 use keys::key::Keyed;
 
 // A row that tells whether its place may be given to another.
+// A trait and no closure that each call is handed: a kind of row says it once.
 pub trait Freeable: Keyed {
     ghost freed: { Self → Bool };
 
