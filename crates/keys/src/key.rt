@@ -1,20 +1,9 @@
-// Keys with a total order, and rows that have one.
+// Rows that have a key.
 ghost use Rattle.std.specs.Prelude.{◌≡◌};
-ghost use Rattle.keys.specs.Orders.{TotalOrder};
 
-use std::cmp::Ordering;
-
-// A key: any two are less, equal or greater, by a total order.
-pub trait Key {
-    ghost order: { TotalOrder Self };
-
-    fn compare(&self, other: &Self) -> Ordering
-        ensures { result ≡ order.rank self.now other.now };
-}
-
-// A row that is found by a key of its own.
+// A row that is found by a key of its own, in the order of such keys.
 pub trait Keyed: Copy {
-    type Key: Key;
+    type Key: Ord;
 
     ghost id: { Self → Self.Key };
 

@@ -1,28 +1,15 @@
 -- A row entered among the used ones.
-use Rattle.std.proofs.Common.{◌≡◌, ℕ, suc, ◌+◌, ◌-◌, ◌<◌, ◌≤◌, min, List, [], ◌∷◌, ◌++◌, map, length, get_or, take, drop, set, Ok, Err, Result, Less, sym, ap, ◌∙◌, subst, ⊎_elim, arith, MatchResult}
+use Rattle.std.proofs.Common.{◌≡◌, ℕ, suc, ◌+◌, ◌-◌, ◌<◌, ◌≤◌, List, [], ◌∷◌, ◌++◌, map, length, get_or, take, drop, set, Err, Result, Ordering, Less, sym, ap, ◌∙◌, subst, ⊎_elim, arith}
 use lib.Seq.{paste}
-use Rattle.keys.specs.Orders.{TotalOrder}
 use Rattle.std.proofs.lemmas.List.Edits.{length-insert, get_or-insert_below, get_or-insert_at, get_or-insert_above}
-use Rattle.std.proofs.lemmas.List.{append_assoc, drop_at, drop-drop, drop-map, drop-take, get_or_append_left, get_or-append_right, get_or-drop, get_or-take, length-take, length-take-le, map-append, set_at, take_all, take_at, take-map, take_more, take-take}
-use Rattle.std.proofs.lemmas.Bool.{cases_lt, cases_order}
+use Rattle.std.proofs.lemmas.List.{append_assoc, drop_at, drop-drop, drop-map, drop-take, get_or_append_left, get_or-append_right, get_or-drop, get_or-take, length-take-le, map-append, set_at, take_at, take-map, take_more, take-take}
+use Rattle.std.proofs.lemmas.Bool.{cases_order}
+use Rattle.std.specs.Cmp.{IsTotalOrder}
 use Rattle.std.specs.List.{insert}
 use Rattle.std.specs.Ordering.{ordering_reverse}
 use Rattle.table.specs.Changes.{BlanksBehind, PutIn, entered}
-use Rattle.table.specs.Order.{Ascending, Higher, Lower, keys, place}
-use Rattle.table.proofs.Searching.{Placed, placed, higher_greater}
-
--- the used rows, as the code cuts them
-pub cut : {X : Type 0} (xs : List X) (used end : ℕ) → end ≡ min used (length xs) → take (end - 0) xs ≡ take used xs
-cut xs used end e =
-    ⊎_elim
-    (λ l. ap (λ n. take n xs) (omega arith))
-    (λ g. take_all (end - 0) xs (omega arith) ∙ sym (take_all used xs (omega arith)))
-    (cases_lt used (length xs))
-
--- a place among the used rows
-pub within_used : {X : Type 0} (xs : List X) (used end : ℕ) (r : Result ℕ ℕ) → end ≡ min used (length xs) → MatchResult r (λ i. i < length (take (end - 0) xs)) (λ i. i ≤ length (take (end - 0) xs)) → MatchResult r (λ i. (i < used) × (i < length xs)) (λ i. (i ≤ used) × (i ≤ length xs))
-within_used xs used end (Ok i) e h = let n = length-take (end - 0) xs in (omega arith, omega arith)
-within_used xs used end (Err i) e h = let n = length-take (end - 0) xs in (omega arith, omega arith)
+use Rattle.table.specs.Order.{Ascending, keys, place}
+use Rattle.table.proofs.Searching.{Parts, Placed, placed}
 
 written : {X : Type 0} (ps bs cs : List X) (y x : X) (n : ℕ) → length ps ≡ n → set (((ps ++ y ∷ []) ++ bs) ++ cs) n x ≡ (ps ++ x ∷ bs) ++ cs
 written ps bs cs y x n e =
@@ -96,29 +83,29 @@ module _ {X : Type 0} (xs : List X) (used i : ℕ) (x : X) (le : i ≤ used) (lt
     keys-entered = ap (map id) (take_at (insert (take used xs) i x) (drop (suc used) xs) (suc used) long) ∙ map-inserted (take used xs)
 
 -- a key between those that are less and those that are greater
-module _ {K : Type 0} (order : TotalOrder K) (ks : List K) (k : K) (i : ℕ) (up : Ascending order ks) (le : i ≤ length ks) (lo : Lower order ks k i) (hi : Higher order ks k i) where
+module _ {K : Type 0} {cmp : K → K → Ordering} (total : IsTotalOrder cmp) (ks : List K) (k : K) (i : ℕ) (up : Ascending cmp ks) (at : Parts cmp ks k i) where
   below : (a : ℕ) (d : K) → a < i → get_or (insert ks i k) a d ≡ get_or ks a d
-  below a d h = get_or-insert_below ks i k d a h le
+  below a d h = get_or-insert_below ks i k d a h at.0
 
   here : (a : ℕ) (d : K) → a ≡ i → get_or (insert ks i k) a d ≡ k
-  here a d e = ap (λ n. get_or (insert ks i k) n d) e ∙ get_or-insert_at ks i k d le
+  here a d e = ap (λ n. get_or (insert ks i k) n d) e ∙ get_or-insert_at ks i k d at.0
 
   above : (a : ℕ) (d : K) → i < a → get_or (insert ks i k) a d ≡ get_or ks (a - 1) d
-  above a d h = let e : a ≡ a - 1 + 1 = omega arith in ap (λ n. get_or (insert ks i k) n d) e ∙ get_or-insert_above ks i k d (a - 1) (omega arith) le
+  above a d h = let e : a ≡ a - 1 + 1 = omega arith in ap (λ n. get_or (insert ks i k) n d) e ∙ get_or-insert_above ks i k d (a - 1) (omega arith) at.0
 
-  both : {x y u v : K} → x ≡ u → y ≡ v → order.rank u v ≡ Less → order.rank x y ≡ Less
+  both : {x y u v : K} → x ≡ u → y ≡ v → cmp u v ≡ Less → cmp x y ≡ Less
   both p q h = cc
 
-  ascending_between : Ascending order (insert ks i k)
+  ascending_between : Ascending cmp (insert ks i k)
   ascending_between a b d lt h =
-      let n = length-insert ks i k le in
+      let n = length-insert ks i k at.0 in
       ⊎_elim
-      (λ e. both (below a d (omega arith)) (here b d e) (lo a d (omega arith)))
+      (λ e. both (below a d (omega arith)) (here b d e) (at.1.0 a d (omega arith) (omega arith)))
       (⊎_elim
       (λ l. both (below a d (omega arith)) (below b d l) (up a b d lt (omega arith)))
       (λ g.
       ⊎_elim
-      (λ e. both (here a d e) (above b d g) (order.flip _ _ ∙ ap ordering_reverse (hi (b - 1) d (omega arith) (omega arith))))
+      (λ e. both (here a d e) (above b d g) (total.antisymm _ _ ∙ ap ordering_reverse (at.1.1 (b - 1) d (omega arith) (omega arith))))
       (⊎_elim
       (λ l. both (below a d l) (above b d g) (up a (b - 1) d (omega arith) (omega arith)))
       (λ m. both (above a d m) (above b d g) (up (a - 1) (b - 1) d (omega arith) (omega arith))))
@@ -126,12 +113,10 @@ module _ {K : Type 0} (order : TotalOrder K) (ks : List K) (k : K) (i : ℕ) (up
       (cases_order b i)
 
 -- where `place` has no such key, it may be entered there
-ascending_placed : {K : Type 0} (order : TotalOrder K) → (ks : List K) (k : K) (i : ℕ) → Ascending order ks → place order ks k ≡ Err i → Ascending order (insert ks i k)
-ascending_placed order ks k i up e =
-    let p : Placed order ks k (Err i) = subst (λ (r : Result ℕ ℕ). Placed order ks k r) e (placed order ks k) in
-    ascending_between order ks k i up p.1 p.0 (λ j d h g. higher_greater order ks k i (omega arith) up (p.2 (omega arith)) j d h g)
+ascending_placed : {K : Type 0} {cmp : K → K → Ordering} (total : IsTotalOrder cmp) → (ks : List K) (k : K) (i : ℕ) → Ascending cmp ks → place cmp ks k ≡ Err i → Ascending cmp (insert ks i k)
+ascending_placed {K} {cmp} total ks k i up e = ascending_between total ks k i up (subst (λ (r : Result ℕ ℕ). Placed cmp ks k r) e (placed total ks k up))
 
 -- a row entered at its place keeps the order
-pub ascending_entered : {X K : Type 0} (order : TotalOrder K) (id : X → K) → (xs ys : List X) (used i : ℕ) (x : X) → i ≤ used → used < length xs → ys ≡ entered xs used i x → Ascending order (keys id used xs) → place order (keys id used xs) (id x) ≡ Err i → Ascending order (keys id (suc used) ys)
-ascending_entered {X} {K} order id xs ys used i x le lt e up at =
-    subst (λ (ks : List K). Ascending order ks) (sym (ap (keys id (suc used)) e ∙ keys-entered xs used i x le lt id)) (ascending_placed order (keys id used xs) (id x) i up at)
+pub ascending_entered : {X K : Type 0} {cmp : K → K → Ordering} (total : IsTotalOrder cmp) (id : X → K) → (xs ys : List X) (used i : ℕ) (x : X) → i ≤ used → used < length xs → ys ≡ entered xs used i x → Ascending cmp (keys id used xs) → place cmp (keys id used xs) (id x) ≡ Err i → Ascending cmp (keys id (suc used) ys)
+ascending_entered {X} {K} {cmp} total id xs ys used i x le lt e up at =
+    subst (λ (ks : List K). Ascending cmp ks) (sym (ap (keys id (suc used)) e ∙ keys-entered xs used i x le lt id)) (ascending_placed total (keys id used xs) (id x) i up at)

@@ -1,86 +1,35 @@
 -- Freed rows taken out of the used ones.
-use Rattle.std.proofs.Common.{◌≡◌, ℕ, zero, suc, ◌+◌, ◌-◌, ◌<◌, ◌≤◌, min, Bool, true, false, cond, not, List, [], ◌∷◌, ◌++◌, map, length, get_or, take, drop, set, replicate, filter, Less, sym, ap, ◌∙◌, subst, ⊎_elim, arith}
+use Rattle.std.proofs.Common.{◌≡◌, ℕ, ◌+◌, ◌-◌, ◌≤◌, min, Bool, not, List, [], ◌∷◌, ◌++◌, map, length, get_or, take, drop, replicate, Ordering, Less, refl, sym, ap, ◌∙◌, subst, ⊎_elim, arith}
+use borrow.Rule.Slice.PartMut.{put_mid}
 use lib.Seq.{paste}
-use Rattle.keys.specs.Orders.{TotalOrder}
-use Rattle.std.proofs.lemmas.List.Edits.{fill_from_more, paste_none}
-use Rattle.std.proofs.ByRecursion.{All-from_get_or, All-get_or, all_kept_by}
-use Rattle.std.proofs.lemmas.List.Filters.{FiltersInPlace, FiltersInPlace-more_no, FiltersInPlace-more_set}
-use Rattle.std.proofs.lemmas.List.{append_assoc, drop_all, drop_at, get_or-append_right, get_or-drop, get_or-map, length-append, length-map, length-replicate, length-take-le, take_all, take_at}
 use Rattle.std.proofs.lemmas.Bool.{cases_lt}
-use Rattle.std.specs.List.{AllByRecursion}
-use Rattle.table.specs.Changes.{Closes, KeptTo, kept}
+use Rattle.std.proofs.lemmas.List.{append_assoc, drop_all, drop_at, get_or-append_right, get_or-drop, length-append, length-drop, length-replicate, length-take-le, replicate-append-replicate, take_all, take_at}
+use Rattle.std.proofs.lemmas.List.Filters.{FiltersInPlace}
+use Rattle.std.proofs.lemmas.List.Kept.{AllPairs-filter}
+use Rattle.std.proofs.lemmas.Slice.{put_mid-paste}
+use Rattle.std.specs.List.{FoldsTo}
+use Rattle.table.specs.Changes.{Closes, kept}
 use Rattle.table.specs.Order.{Ascending}
-use Rattle.table.proofs.Entering.{cut}
+use Rattle.table.proofs.Searching.{cut, keys_from_rows, rows_from_keys}
 
--- the order, from the front: each key is less than all behind it
-module _ {X K : Type 0} (order : TotalOrder K) (id : X → K) where
-  abbrev Climbs : List X → Type 0
-  Climbs [] = Unit {0}
-  Climbs (x ∷ xs) = AllByRecursion (λ y. order.rank (id x) (id y) ≡ Less) xs × Climbs xs
+-- what is left of ascending rows ascends
+ascending_kept : {X K : Type 0} (cmp : K → K → Ordering) (id : X → K) (freed : X → Bool) (xs : List X) → Ascending cmp (map id xs) → Ascending cmp (map id (kept freed xs))
+ascending_kept cmp id freed xs up = keys_from_rows cmp id (kept freed xs) (AllPairs-filter (λ x y. cmp (id x) (id y) ≡ Less) (λ x. not (freed x)) xs (rows_from_keys cmp id xs up))
 
-  climbs : (xs : List X) → Ascending order (map id xs) → Climbs xs
-  climbs [] up = tt
-  climbs (x ∷ xs) up = (
-    All-from_get_or (λ y. order.rank (id x) (id y) ≡ Less) xs x (λ i h. ap (order.rank (id x)) (sym (get_or-map id xs i x (id x) h)) ∙ up 0 (suc i) (id x) (omega arith) (omega (arith, length-map xs id))),
-    climbs xs (λ i j d lt h. up (suc i) (suc j) d (omega arith) (omega arith)),
-  )
+-- calls that always give the blank fill a list with it
+pub blank_calls : {X F : Type 0} (R : F → X → F → Type 0) (f : F) (blank : X) → ((x : X) (f' : F) → R f x f' → (x ≡ blank) × (f' ≡ f)) → (xs : List X) (last : F) → FoldsTo R f xs last → xs ≡ replicate (length xs) blank
+blank_calls R f blank call [] last ran = refl
+blank_calls R f blank call (x ∷ xs) last ran =
+    let one = call x ran.0 ran.1 in
+    let rest = blank_calls R f blank call xs last (subst (λ s. FoldsTo R s xs last) one.1 ran.2) in
+    let first = one.0 in
+    cc
 
-  ascends : (xs : List X) → Climbs xs → Ascending order (map id xs)
-  ascends [] c i j d lt h = absurd (omega arith)
-  ascends (x ∷ xs) c i zero d lt h = absurd (omega arith)
-  ascends (x ∷ xs) c zero (suc j) d lt h =
-      let k : j < length xs = omega (arith, length-map xs id) in
-      ap (order.rank (id x)) (get_or-map id xs j x d k) ∙ All-get_or (λ y. order.rank (id x) (id y) ≡ Less) xs j x k c.0
-  ascends (x ∷ xs) c (suc i) (suc j) d lt h = ascends xs c.1 i j d (omega arith) (omega arith)
-
-  climbs_kept : (p : X → Bool) (xs : List X) → Climbs xs → Climbs (filter p xs)
-  climbs_kept p [] c = tt
-  climbs_kept p (x ∷ xs) c =
-      elim (p x) as (λ v. Climbs (cond v (x ∷ filter p xs) (filter p xs)))
-      [ true ↦ (all_kept_by p (λ y. order.rank (id x) (id y) ≡ Less) xs c.0, climbs_kept p xs c.1) | false ↦ climbs_kept p xs c.1 ]
-
-  -- what is left of ascending rows ascends
-  ascending_kept : (freed : X → Bool) (xs : List X) → Ascending order (map id xs) → Ascending order (map id (kept freed xs))
-  ascending_kept freed xs up = ascends (kept freed xs) (climbs_kept (λ x. not (freed x)) xs (climbs xs up))
-
--- one row more was looked at
-module _ {X : Type 0} {freed : X → Bool} {all ys : List X} {n i : ℕ} {x : X} (so_far : KeptTo freed all ys n i) (lt : i < length ys) (is : x ≡ get_or ys i x) where
-  keeping : FiltersInPlace (λ x. not (freed x)) all ys n i
-  keeping = record { front = so_far.front; rest = so_far.rest; behind = so_far.behind; within = so_far.within; long = so_far.long }
-
-  pub kept_no : true ≡ freed x → KeptTo freed all ys n (i + 1)
-  kept_no e =
-      let k : FiltersInPlace (λ x. not (freed x)) all ys n (i + 1) = FiltersInPlace-more_no {x = x} keeping lt (ap not (sym e)) is in
-      record { front = k.front; rest = k.rest; behind = k.behind; within = k.within; long = k.long }
-
-  pub kept_one : false ≡ freed x → KeptTo freed all (set ys n x) (n + 1) (i + 1)
-  kept_one e =
-      let k : FiltersInPlace (λ x. not (freed x)) all (set ys n x) (n + 1) (i + 1) = FiltersInPlace-more_set {x = x} keeping lt (ap not (sym e)) is in
-      record { front = k.front; rest = k.rest; behind = k.behind; within = k.within; long = k.long }
-
--- blanks written from `at` on, up to i
-abbrev pub Blanked : {X : Type 0} → List X → List X → ℕ → ℕ → X → Type 0
-Blanked xs ys at i blank = ys ≡ paste xs at (replicate (i - at) blank) (i - at)
-
-pub blanked_none : {X : Type 0} (xs : List X) (at : ℕ) (blank : X) → Blanked xs xs at at blank
-blanked_none xs at blank =
-    let none : 0 ≡ at - at = omega arith in
-    paste_none xs at (replicate 0 blank) ∙ ap (λ n. paste xs at (replicate n blank) n) none
-
-pub blanked_more : {X : Type 0} (xs ys : List X) (at i : ℕ) (blank : X) → at ≤ i → i < length xs → Blanked xs ys at i blank → Blanked xs (set ys i blank) at (i + 1) blank
-blanked_more xs ys at i blank le lt so_far =
-    let here : i ≡ at + (i - at) = omega arith in
-    let next : i - at + 1 ≡ i + 1 - at = omega arith in
-    ap (λ zs. set zs i blank) so_far
-    ∙ ap (λ n. set (paste xs at (replicate (i - at) blank) (i - at)) n blank) here
-    ∙ fill_from_more xs at (i - at) blank (omega arith)
-    ∙ ap (λ n. paste xs at (replicate n blank) n) next
-
-replicate-append : {X : Type 0} (m n : ℕ) (x : X) (ys : List X) → replicate m x ++ (replicate n x ++ ys) ≡ replicate (m + n) x ++ ys
-replicate-append zero n x ys = let e : n ≡ zero + n = omega arith in ap (λ k. replicate k x ++ ys) e
-replicate-append (suc m) n x ys =
-    let e : suc (m + n) ≡ suc m + n = omega arith in
-    ap (λ l. x ∷ l) (replicate-append m n x ys) ∙ ap (λ k. replicate k x ++ ys) e
+-- the part behind the kept rows, filled with blanks
+pub filled : {X : Type 0} (ys part : List X) (n end : ℕ) (blank : X) → n ≤ end → end ≤ length ys → length part ≡ length (take (end - n) (drop n ys)) → part ≡ replicate (length part) blank → put_mid n (end - n) ys part ≡ paste ys n (replicate (end - n) blank) (end - n)
+filled ys part n end blank le within long blanks =
+    let size : length part ≡ end - n = long ∙ length-take-le (end - n) (drop n ys) (omega (arith, length-drop n ys)) in
+    put_mid-paste n (end - n) ys part (replicate (end - n) blank) (end - n) (blanks ∙ ap (λ m. replicate m blank) size) refl (sym (length-replicate (end - n) blank))
 
 -- what is behind the used rows, as the code cuts it
 cut_behind : {X : Type 0} (xs : List X) (used end : ℕ) → end ≡ min used (length xs) → drop end xs ≡ drop used xs
@@ -91,9 +40,9 @@ cut_behind xs used end e =
     (cases_lt used (length xs))
 
 -- all used rows were looked at, and blanks stand behind the kept ones
-module _ {X K : Type 0} (order : TotalOrder K) (id : X → K) (freed : X → Bool) (blank : X) (all ys zs : List X) (used end n : ℕ) (clamped : end ≡ min used (length all)) (done : KeptTo freed all ys n end) (filled : Blanked ys zs n end blank) where
+module _ {X K : Type 0} (cmp : K → K → Ordering) (id : X → K) (freed : X → Bool) (blank : X) (all ys zs : List X) (used end n : ℕ) (clamped : end ≡ min used (length all)) (done : FiltersInPlace (λ x. not (freed x)) all ys n end) (filled : zs ≡ paste ys n (replicate (end - n) blank) (end - n)) where
   same_front : take end all ≡ take used all
-  same_front = let e : end ≡ end - 0 = omega arith in ap (λ m. take m all) e ∙ cut all used end clamped
+  same_front = cut all used end clamped
 
   front : take n ys ≡ kept freed (take used all)
   front = done.front ∙ ap (kept freed) same_front
@@ -122,7 +71,7 @@ module _ {X K : Type 0} (order : TotalOrder K) (id : X → K) (freed : X → Boo
       ∙ get_or-drop end all (j - end) d
       ∙ ap (λ m. get_or all m d) back
 
-  pub closes : Closes order id freed blank used all zs n
+  pub closes : Closes cmp id freed blank used all zs n
   closes =
       let old : length (take used all) ≡ end = ap length (sym same_front) ∙ length-take-le end all done.within in
       let gap : length (take used all) - length (kept freed (take used all)) ≡ end - n = omega (arith, old, count) in
@@ -131,13 +80,14 @@ module _ {X K : Type 0} (order : TotalOrder K) (id : X → K) (freed : X → Boo
         rows = blanked ∙ ap (λ m. kept freed (take used all) ++ (replicate m blank ++ drop used all)) (sym gap);
         ascends = λ up.
             let e : take n zs ≡ kept freed (take used all) = ap (take n) blanked ∙ take_at (kept freed (take used all)) (replicate (end - n) blank ++ drop used all) n count in
-            subst (λ (xs : List X). Ascending order (map id xs)) (sym e) (ascending_kept order id freed (take used all) up);
+            subst (λ (xs : List X). Ascending cmp (map id xs)) (sym e) (ascending_kept cmp id freed (take used all) up);
         beyond = beyond;
         blanks = λ m rest le h.
             let g : end - n + m ≡ used - n + m = omega (arith, clamped) in
             ap (drop n) blanked
             ∙ drop_at (kept freed (take used all)) (replicate (end - n) blank ++ drop used all) n count
             ∙ ap (λ l. replicate (end - n) blank ++ l) h
-            ∙ replicate-append (end - n) m blank rest
+            ∙ sym (append_assoc (replicate (end - n) blank) (replicate m blank) rest)
+            ∙ ap (λ l. l ++ rest) (replicate-append-replicate (end - n) m blank)
             ∙ ap (λ k. replicate k blank ++ rest) g;
       }

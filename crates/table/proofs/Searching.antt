@@ -1,130 +1,173 @@
 -- Where a key stands in an ascending list.
-use Rattle.std.proofs.Common.{◌≡◌, ℕ, zero, suc, ◌+◌, ◌-◌, ◌<◌, ◌≤◌, ◌⊎◌, List, [], ◌∷◌, map, length, get_or, Ok, Err, Result, Ordering, Less, Equal, Greater, sym, refl, ap, ◌∙◌, subst, inl, inr, ⊎_elim, arith, MatchResult}
-use Rattle.keys.specs.Orders.{TotalOrder}
-use Rattle.std.proofs.lemmas.List.{get_or-map}
-use Rattle.std.proofs.lemmas.Bool.{cases_lt}
-use Rattle.std.specs.Ordering.{ordering_reverse}
-use Rattle.table.specs.Order.{Ascending, AscendingTo, Answers, Higher, Lower, MissingAt, Tells, place, past, one_on}
+use Rattle.std.proofs.Common.{◌≡◌, ℕ, zero, suc, ◌+◌, ◌<◌, ◌≤◌, Bool, true, false, Decides, List, [], ◌∷◌, map, min, length, get_or, take, Ok, Err, Result, Ordering, Less, Equal, Greater, sym, refl, ap, ◌∙◌, subst, ⊎_elim, arith, MatchResult}
+use Rattle.std.proofs.lemmas.Bool.{cases_lt, cases_order}
+use Rattle.std.proofs.lemmas.Cmp.{on_total, tied_back}
+use Rattle.std.proofs.lemmas.List.{get_or-map, length-map, length-take, take_all}
+use Rattle.std.proofs.lemmas.List.Sorted.{searchable_from_sorted}
+use Rattle.std.proofs.lemmas.Map.Keys.{Less-from_sorted, sorted_from_all_adjacent}
+use Rattle.std.specs.Cmp.{IsTotalOrder}
+use Rattle.std.specs.List.{AllAdjacentBelow, AllPairs, IsAllAdjacentAnswer}
+use Rattle.std.specs.List.Sorted.{IsBinarySearchResult, IsPartitionPoint, IsSearchInRange}
+use Rattle.std.specs.Ordering.{is_lt, on, ordering_reverse}
+use Rattle.table.specs.Order.{Answers, Ascending, MissingAt, StandsAt, place, past}
 
-split : (j m : ℕ) → j < m + 1 → (j ≡ m) ⊎ (j < m)
-split j m h = ⊎_elim (λ l. inr l) (λ g. inl (omega arith)) (cases_lt j m)
+-- the keys below the place i are less, and those from there on are greater
+abbrev pub Parts : {K : Type 0} → (K → K → Ordering) → List K → K → ℕ → Type 0
+Parts cmp ks k i = (i ≤ length ks) × IsPartitionPoint (λ y. cmp y k ≡ Less) (λ y. cmp y k ≡ Greater) ks i
 
-less_not_equal : {o : Ordering} → o ≡ Less → o ≡ Equal → ⊥
-less_not_equal p q = let z : ◌≡◌ {A = ℕ} 0 1 = cc in omega arith
-
-less_not_greater : {o : Ordering} → o ≡ Less → o ≡ Greater → ⊥
-less_not_greater p q = let z : ◌≡◌ {A = ℕ} 0 1 = cc in omega arith
-
-equal_not_greater : {o : Ordering} → o ≡ Equal → o ≡ Greater → ⊥
-equal_not_greater p q = let z : ◌≡◌ {A = ℕ} 0 1 = cc in omega arith
-
--- what the key at the place m tells of the others
-module _ {K : Type 0} (order : TotalOrder K) (ks : List K) (k : K) (m : ℕ) (lt : m < length ks) (up : Ascending order ks) where
-  pub lower_less : ((d : K) → order.rank (get_or ks m d) k ≡ Less) → Lower order ks k (m + 1)
-  lower_less at j d h = ⊎_elim (λ e. ap (λ n. order.rank (get_or ks n d) k) e ∙ at d) (λ l. order.trans _ _ _ (up j m d l lt) (at d)) (split j m h)
-
-  pub higher_greater : ((d : K) → order.rank (get_or ks m d) k ≡ Greater) → Higher order ks k m
-  higher_greater at j d h g =
-      ⊎_elim
-      (λ e. ap (λ n. order.rank (get_or ks n d) k) (sym e) ∙ at d)
-      (λ l. order.flip _ _ ∙ ap ordering_reverse (order.trans _ _ _ (order.flip _ _ ∙ ap ordering_reverse (at d)) (up m j d l g)))
-      (split m j (omega arith))
-
-  pub lower_equal : ((d : K) → order.rank (get_or ks m d) k ≡ Equal) → Lower order ks k m
-  lower_equal at j d h = order.flip _ _ ∙ ap ordering_reverse (sym (order.alike _ _ _ (at d)) ∙ order.flip _ _ ∙ ap ordering_reverse (up j m d h lt))
-
-module _ {K : Type 0} (order : TotalOrder K) where
-  pub place_err : (ks : List K) (k : K) (i : ℕ) → i ≤ length ks → Lower order ks k i → Higher order ks k i → place order ks k ≡ Err i
-  place_err [] k zero le lo hi = refl
-  place_err [] k (suc i) le lo hi = absurd (omega arith)
-  place_err (x ∷ ks) k zero le lo hi = ap (λ o. past o (place order ks k)) (hi 0 x (omega arith) (omega arith))
-  place_err (x ∷ ks) k (suc i) le lo hi =
-      ap (λ o. past o (place order ks k)) (lo 0 x (omega arith))
-      ∙ ap one_on (place_err ks k i (omega arith) (λ j d h. lo (suc j) d (omega arith)) (λ j d h g. hi (suc j) d (omega arith) (omega arith)))
-
-  place_ok : (ks : List K) (k : K) (i : ℕ) → i < length ks → Lower order ks k i → ((d : K) → order.rank (get_or ks i d) k ≡ Equal) → place order ks k ≡ Ok i
-  place_ok [] k i le lo eq = absurd (omega arith)
-  place_ok (x ∷ ks) k zero le lo eq = ap (λ o. past o (place order ks k)) (eq x)
-  place_ok (x ∷ ks) k (suc i) le lo eq =
-      ap (λ o. past o (place order ks k)) (lo 0 x (omega arith)) ∙ ap one_on (place_ok ks k i (omega arith) (λ j d h. lo (suc j) d (omega arith)) eq)
-
-  -- what `place` tells of any list
-  abbrev pub Placed : List K → K → Result ℕ ℕ → Type 0
-  Placed ks k r =
-      MatchResult r
-      (λ i. Lower order ks k i × (i < length ks) × ((d : K) → order.rank (get_or ks i d) k ≡ Equal))
-      (λ i. Lower order ks k i × (i ≤ length ks) × (i < length ks → (d : K) → order.rank (get_or ks i d) k ≡ Greater))
-
-  lower_cons : (x : K) (ks : List K) (k : K) (i : ℕ) → order.rank x k ≡ Less → Lower order ks k i → Lower order (x ∷ ks) k (suc i)
-  lower_cons x ks k i e lo zero d h = e
-  lower_cons x ks k i e lo (suc j) d h = lo j d (omega arith)
-
-  placed-cons : (x : K) (ks : List K) (k : K) (o : Ordering) (r : Result ℕ ℕ) → order.rank x k ≡ o → Placed ks k r → Placed (x ∷ ks) k (past o r)
-  placed-cons x ks k Less (Ok i) e p = (lower_cons x ks k i e p.0, omega (arith, p.1), p.2)
-  placed-cons x ks k Less (Err i) e p = (lower_cons x ks k i e p.0, omega (arith, p.1), λ h d. p.2 (omega arith) d)
-  placed-cons x ks k Equal r e p = (λ j d h. absurd (omega arith), omega arith, λ d. e)
-  placed-cons x ks k Greater r e p = (λ j d h. absurd (omega arith), omega arith, λ h d. e)
-
-  pub placed : (ks : List K) (k : K) → Placed ks k (place order ks k)
-  placed [] k = (λ j d h. absurd (omega arith), omega arith, λ h d. absurd (omega arith))
-  placed (x ∷ ks) k = placed-cons x ks k (order.rank x k) (place order ks k) refl (placed ks k)
+-- a place where the key stands, or one where it would have to stand
+abbrev pub Placed : {K : Type 0} → (K → K → Ordering) → List K → K → Result ℕ ℕ → Type 0
+Placed cmp ks k r = MatchResult r (StandsAt cmp ks k) (Parts cmp ks k)
 
 greater_else : (o : Ordering) → (o ≡ Less → ⊥) → (o ≡ Equal → ⊥) → o ≡ Greater
 greater_else Less l e = absurd (l refl)
 greater_else Equal l e = absurd (e refl)
 greater_else Greater l e = refl
 
-module _ {K : Type 0} (order : TotalOrder K) (ks : List K) (k : K) (up : Ascending order ks) where
-  missing : (i : ℕ) → i ≤ length ks → Lower order ks k i → Higher order ks k i → MissingAt order ks k i
-  missing i le lo hi = record {
-    within = le;
-    nowhere = λ j d h e. ⊎_elim (λ l. less_not_equal (lo j d l) e) (λ g. equal_not_greater e (hi j d g h)) (cases_lt j i);
-    below = lo;
-    only_below = λ j d h e. ⊎_elim (λ l. l) (λ g. absurd (less_not_greater e (hi j d g h))) (cases_lt j i);
-  }
+less_tested : (o : Ordering) → is_lt o ≡ true → o ≡ Less
+less_tested Less e = refl
+less_tested Equal e = absurd (cc)
+less_tested Greater e = absurd (cc)
+
+-- the same of the rows and of their keys
+module _ {X K : Type 0} (cmp : K → K → Ordering) (id : X → K) where
+  pub rows_from_keys : (xs : List X) → Ascending cmp (map id xs) → AllPairs (λ x y. cmp (id x) (id y) ≡ Less) xs
+  rows_from_keys xs up i j d lt h =
+      let at = λ (n : ℕ) (m : n < length xs). get_or-map id xs n d (id d) m in
+      sym (ap_at (at i (omega arith)) (at j h)) ∙ up i j (id d) lt (omega (arith, length-map xs id))
+    where
+      ap_at : {x y u v : K} → x ≡ u → y ≡ v → cmp x y ≡ cmp u v
+      ap_at p q = cc
+
+  pub keys_from_rows : (xs : List X) → AllPairs (λ x y. cmp (id x) (id y) ≡ Less) xs → Ascending cmp (map id xs)
+  keys_from_rows [] up i j d lt h = absurd (omega arith)
+  keys_from_rows (x ∷ xs) up i j d lt h =
+      let m : j < length (x ∷ xs) = omega (arith, length-map xs id) in
+      let p = get_or-map id (x ∷ xs) i x d (omega arith) in
+      let q = get_or-map id (x ∷ xs) j x d m in
+      let l = up i j x lt m in
+      cc
+
+module _ {X K : Type 0} (id : X → K) (P : K → Type 0) where
+  pub key_at : (xs : List X) (i : ℕ) → i < length xs → ((d : X) → P (id (get_or xs i d))) → (d : K) → P (get_or (map id xs) i d)
+  key_at [] i h at d = absurd (omega arith)
+  key_at (x ∷ xs) i h at d = subst P (sym (get_or-map id (x ∷ xs) i x d h)) (at x)
+
+module _ {K : Type 0} {cmp : K → K → Ordering} (total : IsTotalOrder cmp) where
+  module _ (ks : List K) (k : K) (up : Ascending cmp ks) where
+    one_place : (i j : ℕ) → i < j → StandsAt cmp ks k i → StandsAt cmp ks k j → ⊥
+    one_place i j lt s t =
+        let less = up i j k lt t.0 in
+        let same = total.congr (get_or ks i k) k (get_or ks j k) (s.1 k) in
+        let back = tied_back total (get_or ks j k) k (t.1 k) in
+        cc
+
+    no_place : (i j : ℕ) → StandsAt cmp ks k i → Parts cmp ks k j → ⊥
+    no_place i j s p = ⊎_elim
+        (λ l. let e = p.1.0 i k (omega arith) l in let f = s.1 k in cc)
+        (λ g. let e = p.1.1 i k g s.0 in let f = s.1 k in cc)
+        (cases_lt i j)
+
+    one_gap : (i j : ℕ) → i < j → Parts cmp ks k i → Parts cmp ks k j → ⊥
+    one_gap i j lt p q = let e = p.1.1 i k (omega arith) (omega (arith, q.0)) in let f = q.1.0 i k (omega arith) lt in cc
+
+    -- there is one answer
+    pub same : (r s : Result ℕ ℕ) → Placed cmp ks k r → Placed cmp ks k s → r ≡ s
+    same (Ok i) (Ok j) a b = ⊎_elim (ap Ok) (⊎_elim (λ l. absurd (one_place i j l a b)) (λ g. absurd (one_place j i g b a))) (cases_order i j)
+    same (Ok i) (Err j) a b = absurd (no_place i j a b)
+    same (Err i) (Ok j) a b = absurd (no_place j i b a)
+    same (Err i) (Err j) a b = ⊎_elim (ap Err) (⊎_elim (λ l. absurd (one_gap i j l a b)) (λ g. absurd (one_gap j i g b a))) (cases_order i j)
+
+    missing : (i : ℕ) → Parts cmp ks k i → MissingAt cmp ks k i
+    missing i p = record {
+      within = p.0;
+      nowhere = λ j d h e. ⊎_elim (λ l. let f = p.1.0 j d (omega arith) l in cc) (λ g. let f = p.1.1 j d g h in cc) (cases_lt j i);
+      below = λ j d h. p.1.0 j d (omega arith) h;
+      only_below = λ j d h e. ⊎_elim (λ l. l) (λ g. let f = p.1.1 j d g h in absurd (cc)) (cases_lt j i);
+    }
+
+    parts : (i : ℕ) → MissingAt cmp ks k i → Parts cmp ks k i
+    parts i m = (m.within, ((λ j d l h. m.below j d h), λ j d l h. greater_else _ (λ e. let f = m.only_below j d h e in omega arith) (m.nowhere j d h)))
+
+    pub answers : (r : Result ℕ ℕ) → Placed cmp ks k r → Answers cmp ks k r
+    answers r a = record {
+      ok = λ i e. subst (λ (r : Result ℕ ℕ). Placed cmp ks k r) e a;
+      ok_only = λ i s. same r (Ok i) a s;
+      err = λ i e. missing i (subst (λ (r : Result ℕ ℕ). Placed cmp ks k r) e a);
+      err_only = λ i m. same r (Err i) a (parts i m);
+    }
+
+  module _ (x : K) (ks : List K) (k : K) (up : Ascending cmp (x ∷ ks)) where
+    below-cons : (i : ℕ) → cmp x k ≡ Less → Parts cmp ks k i → (j : ℕ) (d : K) → j < suc i → cmp (get_or (x ∷ ks) j d) k ≡ Less
+    below-cons i e p zero d h = e
+    below-cons i e p (suc j) d h = p.1.0 j d (omega arith) (omega arith)
+
+    above-cons : (i : ℕ) → Parts cmp ks k i → (j : ℕ) (d : K) → suc i ≤ j → j < length (x ∷ ks) → cmp (get_or (x ∷ ks) j d) k ≡ Greater
+    above-cons i p zero d h g = absurd (omega arith)
+    above-cons i p (suc j) d h g = p.1.1 j d (omega arith) (omega arith)
+
+    all_above : cmp x k ≡ Greater → (j : ℕ) (d : K) → j < length (x ∷ ks) → cmp (get_or (x ∷ ks) j d) k ≡ Greater
+    all_above e zero d g = e
+    all_above e (suc j) d g =
+        let first = total.antisymm k x ∙ ap ordering_reverse e in
+        let less = total.trans k x (get_or ks j d) first (up 0 (suc j) d (omega arith) g) in
+        total.antisymm (get_or ks j d) k ∙ ap ordering_reverse less
+
+    placed-cons : (o : Ordering) (r : Result ℕ ℕ) → cmp x k ≡ o → Placed cmp ks k r → Placed cmp (x ∷ ks) k (past o r)
+    placed-cons Less (Ok i) e p = (omega (arith, p.0), p.1)
+    placed-cons Less (Err i) e p = (omega (arith, p.0), ((λ j d l h. below-cons i e p j d h), λ j d h g. above-cons i p j d h g))
+    placed-cons Equal r e p = (omega arith, λ d. e)
+    placed-cons Greater r e p = (omega arith, ((λ j d l h. absurd (omega arith)), λ j d h g. all_above e j d g))
 
   -- `place` answers where a key stands
-  pub answers : Answers order ks k (place order ks k)
-  answers = record {
-    ok = λ i e. let p : Placed order ks k (Ok i) = subst (λ (r : Result ℕ ℕ). Placed order ks k r) e (placed order ks k) in (p.1, p.2);
-    ok_only = λ i s. place_ok order ks k i s.0 (lower_equal order ks k i s.0 up s.1) s.1;
-    err = λ i e.
-        let p : Placed order ks k (Err i) = subst (λ (r : Result ℕ ℕ). Placed order ks k r) e (placed order ks k) in
-        missing i p.1 p.0 (λ j d h g. higher_greater order ks k i (omega arith) up (p.2 (omega arith)) j d h g);
-    err_only = λ i m. place_err order ks k i m.within m.below
-        (λ j d h g. greater_else _ (λ e. absurd (omega (arith, m.only_below j d g e))) (m.nowhere j d g));
-  }
+  pub placed : (ks : List K) (k : K) → Ascending cmp ks → Placed cmp ks k (place cmp ks k)
+  placed [] k up = (omega arith, ((λ j d l h. absurd (omega arith)), λ j d h g. absurd (omega arith)))
+  placed (x ∷ ks) k up = placed-cons x ks k up (cmp x k) (place cmp ks k) refl (placed ks k (λ i j d lt h. up (suc i) (suc j) d (omega arith) (omega arith)))
 
-  pub tells : (i : ℕ) (o : Ordering) → i < length ks → ((d : K) → order.rank (get_or ks i d) k ≡ o) → Tells order ks k i o
-  tells i Less lt at = lower_less order ks k i lt up at
-  tells i Equal lt at =
-      let e : place order ks k ≡ Ok i = place_ok order ks k i lt (lower_equal order ks k i lt up at) at in
-      (e, subst (λ (r : Result ℕ ℕ). Answers order ks k r) e answers)
-  tells i Greater lt at = higher_greater order ks k i lt up at
+  -- and so does whatever else tells a place
+  pub found : (ks : List K) (k : K) (up : Ascending cmp ks) (r : Result ℕ ℕ) → Placed cmp ks k r → (r ≡ place cmp ks k) × Answers cmp ks k r
+  found ks k up r a = (same ks k up r (place cmp ks k) a (placed ks k up), answers ks k up r a)
 
-  pub answers_err : (i : ℕ) → i ≤ length ks → Lower order ks k i → Higher order ks k i → (Err i ≡ place order ks k) × Answers order ks k (Err i)
-  answers_err i le lo hi =
-      let e : place order ks k ≡ Err i = place_err order ks k i le lo hi in
-      (sym e, subst (λ (r : Result ℕ ℕ). Answers order ks k r) e answers)
+  -- as a binary search of the rows does
+  module _ {X : Type 0} (id : X → K) (xs : List X) (k : K) (up : Ascending cmp (map id xs)) where
+    rising : (n : ℕ) (d : X) → 0 ≤ n → n + 1 < length xs → is_lt (cmp (id (get_or xs (n + 1) d)) (id (get_or xs n d))) ≡ false
+    rising n d l h = ap is_lt {y = Greater} (total.antisymm _ _ ∙ ap ordering_reverse (rows_from_keys cmp id xs up n (n + 1) d (omega arith) h))
 
--- one key more that is greater than the one before it
-pub ascending_more : {K : Type 0} (order : TotalOrder K) → (ks : List K) (n : ℕ) → 0 < n → ((d : K) → order.rank (get_or ks (n - 1) d) (get_or ks n d) ≡ Less) → AscendingTo order ks n → AscendingTo order ks (n + 1)
-ascending_more order ks n pos at up i j d lt below h =
-    ⊎_elim
-    (λ e.
-    ap (λ m. order.rank (get_or ks i d) (get_or ks m d)) e
-    ∙ ⊎_elim
-    (λ f. ap (λ m. order.rank (get_or ks m d) (get_or ks n d)) f ∙ at d)
-    (λ l. order.trans _ _ _ (up i (n - 1) d l (omega arith) (omega arith)) (at d))
-    (split i (n - 1) (omega arith)))
-    (λ l. up i j d lt l h)
-    (split j n below)
+    pub searched : (r : Result ℕ ℕ) → IsSearchInRange r (length xs) → IsBinarySearchResult (λ x. cmp (id x) k) xs r → Placed cmp (map id xs) k r
+    searched (Ok i) h s = (omega (arith, length-map xs id), key_at id (λ y. cmp y k ≡ Equal) xs i h s)
+    searched (Err i) h s =
+        let p = s (searchable_from_sorted total id xs k rising) in (
+          omega (arith, length-map xs id),
+          (
+            (λ j d l g. key_at id (λ y. cmp y k ≡ Less) xs j (omega arith) (λ e. p.0 j e l g) d),
+            λ j d l g. let m : j < length xs = omega (arith, length-map xs id) in key_at id (λ y. cmp y k ≡ Greater) xs j m (λ e. p.1 j e l m) d,
+          ),
+        )
 
--- what a comparison with the key of a row tells
-pub at_key : {X K : Type 0} (id : X → K) (order : TotalOrder K) (xs : List X) (m : ℕ) (x : X) (kx k : K) (o : Ordering) → m < length xs → x ≡ get_or xs m x → kx ≡ id x → o ≡ order.rank kx k → (d : K) → order.rank (get_or (map id xs) m d) k ≡ o
-at_key id order xs m x kx k o h e f w d = ap (λ y. order.rank y k) (get_or-map id xs m x d h ∙ ap id (sym e) ∙ sym f) ∙ sym w
+-- rows of which each is less than the next
+module _ {X K : Type 0} {cmp : K → K → Ordering} (total : IsTotalOrder cmp) (id : X → K) where
+  far : (xs : List X) → AllAdjacentBelow (λ x y. is_lt (cmp (id x) (id y)) ≡ true) xs (length xs) → AllPairs (λ x y. cmp (id x) (id y) ≡ Less) xs
+  far xs steps i j d lt h = Less-from_sorted (on id cmp) xs i j d (sorted_from_all_adjacent (on_total id total) xs d (λ n m. less_tested _ (steps n d m))) lt h
 
--- and a comparison of the keys of two rows
-pub at_keys : {X K : Type 0} (id : X → K) (order : TotalOrder K) (xs : List X) (m n : ℕ) (x y : X) (kx ky : K) (o : Ordering) → m < length xs → n < length xs → x ≡ get_or xs m x → y ≡ get_or xs n y → kx ≡ id x → ky ≡ id y → o ≡ order.rank kx ky → (d : K) → order.rank (get_or (map id xs) m d) (get_or (map id xs) n d) ≡ o
-at_keys id order xs m n x y kx ky o hm hn ex ey fx fy w d =
-    at_key id order xs m x kx (get_or (map id xs) n d) o hm ex fx (w ∙ ap (order.rank kx) (fy ∙ ap id ey ∙ sym (get_or-map id xs n y d hn))) d
+  unstepped : (xs : List X) (n : ℕ) → n + 1 < length xs → ((d : X) → false ≡ is_lt (cmp (id (get_or xs n d)) (id (get_or xs (n + 1) d)))) → Ascending cmp (map id xs) → ⊥
+  unstepped [] n h a up = omega arith
+  unstepped (x ∷ xs) n h a up =
+      let l : is_lt (cmp (id (get_or (x ∷ xs) n x)) (id (get_or (x ∷ xs) (n + 1) x))) ≡ true = ap is_lt (rows_from_keys cmp id (x ∷ xs) up n (n + 1) x (omega arith) h) in
+      let e = a x in
+      absurd_test (e ∙ l)
+    where
+      absurd_test : false ≡ true → ⊥
+      absurd_test e = cc
+
+  pub ascending_tested : (xs : List X) (r : Bool) → IsAllAdjacentAnswer (λ x y b. b ≡ is_lt (cmp (id x) (id y))) xs r → Decides r (Ascending cmp (map id xs))
+  ascending_tested xs true a = (λ e. keys_from_rows cmp id xs (far xs (λ n d h. sym (a n d h))), λ up. refl)
+  ascending_tested xs false a = (λ e. absurd (cc), λ up. absurd (unstepped xs a.0 a.1 a.2 up))
+
+-- the used rows, as the code cuts them
+pub cut : {X : Type 0} (xs : List X) (used end : ℕ) → end ≡ min used (length xs) → take end xs ≡ take used xs
+cut xs used end e = ⊎_elim (λ l. ap (λ n. take n xs) (omega arith)) (λ g. take_all end xs (omega arith) ∙ sym (take_all used xs (omega arith))) (cases_lt used (length xs))
+
+-- a place among the used rows
+pub within_used : {X : Type 0} (xs : List X) (used end : ℕ) (r : Result ℕ ℕ) → end ≡ min used (length xs) → IsSearchInRange r (length (take end xs)) → MatchResult r (λ i. (i < used) × (i < length xs)) (λ i. (i ≤ used) × (i ≤ length xs))
+within_used xs used end (Ok i) e h = let n = length-take end xs in (omega arith, omega arith)
+within_used xs used end (Err i) e h = let n = length-take end xs in (omega arith, omega arith)

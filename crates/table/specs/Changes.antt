@@ -1,9 +1,9 @@
 -- What the changes of a table leave: the used rows come first, then blanks, then what is past the table.
-use Rattle.std.specs.Prelude.{◌≡◌, ℕ, suc, ◌+◌, ◌-◌, ◌<◌, ◌≤◌, Bool, false, not, List, ◌++◌, length, take, drop, replicate, is_ok, Ok, Err, filter, slice_index_or}
-use Rattle.keys.specs.Orders.{TotalOrder}
+use Rattle.std.specs.Prelude.{◌≡◌, ℕ, suc, ◌+◌, ◌-◌, ◌<◌, ◌≤◌, Bool, false, not, List, ◌++◌, length, take, drop, replicate, is_ok, Ok, Err, Result, filter, slice_index_or, codes, decimal}
 use Rattle.std.specs.List.{insert}
-use Rattle.table.specs.declared.insertion.Insertion.{Insertion}
-use Rattle.table.specs.declared.insertion.Insertion.TheVariants.{Entered, Known, Full}
+use Rattle.std.specs.declared.cmp.Ordering.{Ordering}
+use Rattle.table.specs.declared.insertion.NotEntered.{NotEntered}
+use Rattle.table.specs.declared.insertion.NotEntered.TheVariants.{Known, Full}
 use Rattle.table.specs.Order.{Ascending, keys, place}
 
 -- behind the used rows stand n blanks, and behind them the rest, which is past the table
@@ -23,24 +23,28 @@ pub record PutIn {X : Type 0} (used : ℕ) (xs : List X) (x : X) (ys : List X) (
   pub blanks : (n : ℕ) (blank : X) (rest : List X) → BlanksBehind (suc n) blank rest used xs → BlanksBehind n blank rest (suc used) ys
 
 -- there was room for it, and it was entered at its place
-pub record Enters {X K : Type 0} (order : TotalOrder K) (id : X → K) (used : ℕ) (xs : List X) (x : X) (ys : List X) (i : ℕ) : Type 0 where
+pub record Enters {X K : Type 0} (cmp : K → K → Ordering) (id : X → K) (used : ℕ) (xs : List X) (x : X) (ys : List X) (i : ℕ) : Type 0 where
   pub room : used < length xs
   pub within : i ≤ used
   pub put : PutIn used xs x ys i
-  pub at : Ascending order (keys id used xs) → place order (keys id used xs) (id x) ≡ Err i
-  pub ascends : Ascending order (keys id used xs) → Ascending order (keys id (suc used) ys)
+  pub at : Ascending cmp (keys id used xs) → place cmp (keys id used xs) (id x) ≡ Err i
+  pub ascends : Ascending cmp (keys id used xs) → Ascending cmp (keys id (suc used) ys)
 
 -- what the answer to an insertion means: xs are the rows before it, ys those after it
-abbrev pub Inserts : {X K : Type 0} → TotalOrder K → (X → K) → ℕ → List X → X → List X → Insertion → Type 0
-Inserts order id used xs x ys (Entered i) = Enters order id used xs x ys i
-Inserts order id used xs x ys (Known i) = (ys ≡ xs) × (i < used) × (i < length xs) × (Ascending order (keys id used xs) → place order (keys id used xs) (id x) ≡ Ok i)
-Inserts order id used xs x ys Full = (ys ≡ xs) × (length xs ≤ used) × (Ascending order (keys id used xs) → is_ok (place order (keys id used xs) (id x)) ≡ false)
+abbrev pub Inserts : {X K : Type 0} → (K → K → Ordering) → (X → K) → ℕ → List X → X → List X → Result ℕ NotEntered → Type 0
+Inserts cmp id used xs x ys (Ok i) = Enters cmp id used xs x ys i
+Inserts cmp id used xs x ys (Err (Known i)) = (ys ≡ xs) × (i < used) × (i < length xs) × (Ascending cmp (keys id used xs) → place cmp (keys id used xs) (id x) ≡ Ok i)
+Inserts cmp id used xs x ys (Err Full) = (ys ≡ xs) × (length xs ≤ used) × (Ascending cmp (keys id used xs) → is_ok (place cmp (keys id used xs) (id x)) ≡ false)
 
 -- how many rows are used after it
-abbrev pub used_after : ℕ → Insertion → ℕ
-used_after used (Entered i) = suc used
-used_after used (Known i) = used
-used_after used Full = used
+abbrev pub used_after : ℕ → Result ℕ NotEntered → ℕ
+used_after used (Ok i) = suc used
+used_after used (Err e) = used
+
+-- what the refusal of a row says
+abbrev pub not_entered_text : NotEntered → List ℕ
+not_entered_text (Known i) = codes "key known at place " ++ decimal i
+not_entered_text Full = codes "no blank left"
 
 -- the rows that are not freed, in their order
 abbrev pub kept : {X : Type 0} → (X → Bool) → List X → List X
@@ -52,17 +56,9 @@ closed_up freed blank used xs =
     kept freed (take used xs) ++ (replicate (length (take used xs) - length (kept freed (take used xs))) blank ++ drop used xs)
 
 -- the rows were closed up, and n are used now
-pub record Closes {X K : Type 0} (order : TotalOrder K) (id : X → K) (freed : X → Bool) (blank : X) (used : ℕ) (xs ys : List X) (n : ℕ) : Type 0 where
+pub record Closes {X K : Type 0} (cmp : K → K → Ordering) (id : X → K) (freed : X → Bool) (blank : X) (used : ℕ) (xs ys : List X) (n : ℕ) : Type 0 where
   pub count : n ≡ length (kept freed (take used xs))
   pub rows : ys ≡ closed_up freed blank used xs
-  pub ascends : Ascending order (keys id used xs) → Ascending order (keys id n ys)
+  pub ascends : Ascending cmp (keys id used xs) → Ascending cmp (keys id n ys)
   pub beyond : (j : ℕ) (d : X) → used ≤ j → slice_index_or ys j d ≡ slice_index_or xs j d
   pub blanks : (m : ℕ) (rest : List X) → used ≤ length xs → BlanksBehind m blank rest used xs → BlanksBehind (used - n + m) blank rest n ys
-
--- of the first i rows of xs those that are kept stand in the first n places of ys; from i on ys is as xs
-pub record KeptTo {X : Type 0} (freed : X → Bool) (xs ys : List X) (n i : ℕ) : Type 0 where
-  pub front : take n ys ≡ kept freed (take i xs)
-  pub rest : drop i ys ≡ drop i xs
-  pub behind : n ≤ i
-  pub within : i ≤ length xs
-  pub long : length ys ≡ length xs

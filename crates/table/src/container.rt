@@ -1,71 +1,27 @@
 // The ordered table over lent rows: used rows come first, then blanks.
-ghost use Rattle.std.specs.Prelude.{◌≡◌, length, MatchResult};
-ghost use Rattle.refusals.specs.declared.refusal.Refusal.TheVariants.{RegisterDisordered};
-ghost use Rattle.table.specs.Changes.{Closes, Inserts, used_after};
 ghost use Rattle.table.specs.Order.{Finds};
-ghost use Rattle.table.specs.Register.{IsRegister};
 
-use crate::closing::{Freeable, close_up};
-use crate::insertion::{Insertion, insert};
-use crate::order::find_used;
-use crate::register::check_register;
-use crate::rows::Rows;
-use keys::key::{Key, Keyed};
-use refusals::refusal::Refusal;
+use crate::order::find;
+use keys::key::Keyed;
+use std::convert::AsSlice;
 
 // A table of rows that someone lends, of which the first `used` are used.
+// Whoever lends them fixes their memory, so the number of used rows stands beside them; it is clamped wherever it is read.
+// Their order is a premise of the promises and no invariant: rows may be lent in any order, and no call asks for one.
 #[derive(Drop)]
 pub struct Table<S> {
     pub rows: S,
     pub used: usize,
 }
 
-impl<S: Rows> Table<S> {
+impl<S> Table<S> {
     // Where the row with this key stands, or else the place where it would have to stand.
-    pub fn find(&self, key: &<S::Row as Keyed>::Key) -> Result<usize, usize>
-        ensures { Finds S.Row.Key.Key.order S.Row.Keyed.id self.now.used (S.Rows.held self.now.rows) key.now result }
+    pub fn find<R: Keyed>(&self, key: &R::Key) -> Result<usize, usize>
+    where
+        S: AsSlice<R>,
+        ensures { Finds R.Key.cmp R.id self.now.used (S.items self.now.rows) key.now result }
     {
-        find_used(self.rows.all(), self.used, key)
-    }
-}
-
-impl<'t, R: Keyed> Table<&'t [R]> {
-    // A register, whose entries are all used. A list that is none is refused.
-    pub fn register(entries: &'t [R]) -> Result<Self, Refusal>
-        ensures { MatchResult result (λ t. (t.used ≡ length entries.now) × (t.rows.now ≡ entries.now) × IsRegister R.Key.Key.order R.Keyed.id entries.now) (λ e. (e ≡ RegisterDisordered) × (IsRegister R.Key.Key.order R.Keyed.id entries.now → ⊥)) }
-    {
-        check_register(entries)?;
-        let used = entries.len();
-        Ok(Table {
-            rows: entries,
-            used,
-        })
-    }
-}
-
-impl<'t, R: Keyed> Table<&'t mut [R]> {
-    // Enters a row at its place, unless its key is known or no blank is left.
-    pub fn insert(&mut self, row: R) -> Insertion
-        ensures lent { self.new.rows.ghost_name ≡ self.old.rows.ghost_name }
-        ensures count { self.new.used ≡ used_after self.old.used result }
-        ensures rows { Inserts R.Key.Key.order R.Keyed.id self.old.used self.old.rows.now row self.new.rows.now result }
-    {
-        let used = self.used;
-        let answer = insert(self.rows, used, row);
-        if let Insertion::Entered(_) = answer {
-            self.used = used + 1;
-        }
-        answer
-    }
-}
-
-impl<'t, R: Freeable> Table<&'t mut [R]> {
-    // Takes out the freed rows; the others close up in their order, and blanks take the places behind them.
-    pub fn close_up(&mut self, blank: R)
-        ensures lent { self.new.rows.ghost_name ≡ self.old.rows.ghost_name }
-        ensures rows { Closes R.Key.Key.order R.Keyed.id R.Freeable.freed blank self.old.used self.old.rows.now self.new.rows.now self.new.used }
-    {
-        let used = self.used;
-        self.used = close_up(self.rows, used, blank);
+        let rows = self.rows.as_slice();
+        find(&rows[..self.used.min(rows.len())], key)
     }
 }

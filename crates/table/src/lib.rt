@@ -6,4 +6,3 @@ pub mod container;
 pub mod insertion;
 pub mod order;
 pub mod register;
-pub mod rows;

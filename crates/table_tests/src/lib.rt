@@ -12,7 +12,7 @@ mod tests {
     use refusals::refusal::Refusal;
     use std::test::Fail;
     use table::container::Table;
-    use table::insertion::Insertion;
+    use table::insertion::NotEntered;
 
     fn sample(trade: &[u8], other: &[u8], mark: u32) -> Result<Sample, NotACode> {
         let key = SampleKey {
@@ -35,20 +35,17 @@ mod tests {
             rows: &mut slots[..],
             used: 0,
         };
+        assert_eq!(rt; table.insert(sample(b"T2", b"B", 1)?), Ok(0));
+        assert_eq!(rt; table.insert(sample(b"T2", b"AB", 2)?), Ok(0));
         assert_eq!(rt;
-            table.insert(sample(b"T2", b"B", 1)?),
-            Insertion::Entered(0)
+            table.insert(sample(b"T2", b"B", 3)?),
+            Err(NotEntered::Known(1))
         );
+        assert_eq!(rt; table.insert(sample(b"T10", b"C", 0)?), Ok(0));
         assert_eq!(rt;
-            table.insert(sample(b"T2", b"AB", 2)?),
-            Insertion::Entered(0)
+            table.insert(sample(b"T3", b"C", 4)?),
+            Err(NotEntered::Full)
         );
-        assert_eq!(rt; table.insert(sample(b"T2", b"B", 3)?), Insertion::Known(1));
-        assert_eq!(rt;
-            table.insert(sample(b"T10", b"C", 0)?),
-            Insertion::Entered(0)
-        );
-        assert_eq!(rt; table.insert(sample(b"T3", b"C", 4)?), Insertion::Full);
         table.close_up(blank);
         assert!(rt; table.used == 2);
         assert!(rt; table.find(&sample(b"T2", b"B", 0)?.key) == Ok(1));

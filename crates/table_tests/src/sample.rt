@@ -1,7 +1,9 @@
 // A row of a kind made for tests, with a key of three parts.
 use codes::code::{ClientCode, Lei, TradeId};
 
+// Keys compare by the trade's name, then by the party that reports, then by the other.
 #[derive(Clone, Copy)]
+#[derive_where(PartialEq, Eq, PartialOrd, Ord)]
 pub struct SampleKey {
     pub trade: TradeId,
     pub reporting: Lei,

@@ -1,27 +1,12 @@
-// What the table's user writes: the order of the key, which rows are freed, and calls of the table.
+// What the table's user writes: the key of a row, which rows are freed, and calls of the table.
 ghost use Rattle.table.specs.Changes.{Closes, Inserts};
 ghost use Rattle.table_tests.specs.Samples.{sample_order};
 
 use crate::sample::{Sample, SampleKey};
-use keys::key::{Key, Keyed};
-use std::cmp::Ordering;
+use keys::key::Keyed;
 use table::closing::Freeable;
 use table::container::Table;
-use table::insertion::Insertion;
-
-impl Key for SampleKey {
-    ghost order = { sample_order };
-
-    fn compare(&self, other: &SampleKey) -> Ordering {
-        match self.trade.compare(&other.trade) {
-            Ordering::Equal => match self.reporting.compare(&other.reporting) {
-                Ordering::Equal => self.other.compare(&other.other),
-                unequal => unequal,
-            },
-            unequal => unequal,
-        }
-    }
-}
+use table::insertion::NotEntered;
 
 impl Keyed for Sample {
     type Key = SampleKey;
@@ -42,7 +27,7 @@ impl Freeable for Sample {
 }
 
 // The lender of the rows knows them after an insertion through the table.
-pub fn enter(rows: &mut [Sample], used: usize, row: Sample) -> Insertion
+pub fn enter(rows: &mut [Sample], used: usize, row: Sample) -> Result<usize, NotEntered>
     ensures { Inserts sample_order (λ x. x.key) used rows.old row rows.new result }
 {
     let mut table = Table { rows, used };

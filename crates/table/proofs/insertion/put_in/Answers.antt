@@ -9,5 +9,5 @@ returns g c =
     let put = put_in xs used at c.args.row c.requires.within c.requires.room _ c.copy_within.ensures.after in
     record {
       put = put;
-      ascends = ascending_entered g.R.Key.Key.order g.R.Keyed.id xs _ used at c.args.row c.requires.within c.requires.room put.rows;
+      ascends = ascending_entered g.met.R.Key.Ord.total g.R.Keyed.id xs _ used at c.args.row c.requires.within c.requires.room put.rows;
     }

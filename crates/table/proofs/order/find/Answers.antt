@@ -1,15 +1,17 @@
-use Rattle.std.proofs.Common.{◌≤◌, map, length, arith}
-use Rattle.std.proofs.lemmas.List.{length-map}
+use Rattle.std.proofs.Common.{map, of_calls, rules}
+use Rattle.std.proofs.lemmas.Fn.{always_returns_same}
 use Rattle.table.specs.Order.{Ascending}
-use Rattle.table.proofs.Searching.{answers_err}
+use Rattle.table.proofs.Searching.{found, searched}
 use Rattle.table.proofs.order.find.Goals as goal
-
-pub loop-low-init : goal.loop-low-init
-loop-low-init g c = (omega arith, omega arith, λ _ j d h. absurd (omega arith), λ _ j d h k. absurd (omega (arith, simp length-map at k)))
 
 pub returns : goal.returns
 returns g c =
-    let ks = map g.R.Keyed.id c.args.rows.now in
-    let le : c.loop-low.low ≤ length ks = simp length-map (omega arith) in
-    let done = (λ (up : Ascending g.R.Key.Key.order ks). answers_err g.R.Key.Key.order ks c.args.key.now up c.loop-low.low le (c.loop-low.invariant.2 up) (λ j d h k. c.loop-low.invariant.3 up j d (omega arith) k)) in
-    record { within = omega arith; value = λ up. (done up).0; law = λ up. (done up).1 }
+    let cmp = g.R.Key.Ord.cmp in
+    let id = g.R.Keyed.id in
+    let total = g.met.R.Key.Ord.total in
+    let xs = c.args.rows.now in
+    let k = c.args.key.now in
+    let r = c.binary_search_by.result in
+    let search_is = c.binary_search_by.ensures.position (λ x. cmp (id x) k) (always_returns_same _ _ _ (λ a r f called. search (rules, of_calls))) in
+    let done = λ (up : Ascending cmp (map id xs)). found total (map id xs) k up r (searched total id xs k up r c.binary_search_by.ensures.bound search_is) in
+    record { within = c.binary_search_by.ensures.bound; value = λ up. (done up).0; law = λ up. (done up).1 }

@@ -2,9 +2,9 @@ use Rattle.codes.specs.Codes.{text_of}
 use Rattle.registers.proofs.Listing.{listed_among}
 use Rattle.std.proofs.lemmas.Bool.Decides.{Decides-at}
 use Rattle.std.proofs.Common.{is_ok}
-use Rattle.registers.proofs.has_code.Goals as goal
+use Rattle.registers.proofs.knows.Goals as goal
 
 pub returns : goal.returns
 returns g c = λ register.
     Decides-at c.is_ok.result (is_ok c.find.result) c.is_ok.ensures.value
-    (listed_among (text_of {alphabet = g.row.ALPHABET} {least = g.row.LEAST} {most = g.row.MOST}) c.args.register.now c.args.code.now c.find.result c.find.ensures.law register.ascends)
+    (listed_among (text_of {A = g.row.A.Denot} {least = g.row.LEAST} {most = g.row.MOST} {m = g.A.Alphabet}) c.args.register.now c.args.code.now c.find.result c.find.ensures.law register.ascends)
