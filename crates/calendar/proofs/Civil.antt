@@ -1,15 +1,15 @@
 -- A day's number and its year, month and day give each other, and so do a day's number and its text.
-use Rattle.std.proofs.Common.{◌≡◌, ℕ, ◌+◌, ◌-◌, ◌<◌, ◌≤◌, true, List, ◌∷◌, ◌++◌, get_or, Some, None, IsAscii, sum, Option, sym, refl, ap, ◌∙◌, inl, inr, arith}
-use Rattle.std.proofs.ByRecursion.{IsAscii-from_all, All-append}
+use Rattle.std.proofs.Common.{◌≡◌, ℕ, ◌+◌, ◌-◌, ◌<◌, ◌≤◌, true, List, get_or, Some, None, sum, Option, IfOk, Ok, Err, Result, sym, refl, ap, ◌∙◌, inl, inr, arith}
 use Rattle.std.proofs.lemmas.List.{take_all}
 use Rattle.std.proofs.lemmas.Bool.{cases_Bool, cond-false, cond-true}
 use Rattle.std.proofs.lemmas.Bool.Decides.{nat_tests}
-use Rattle.texts.specs.Numerals.{padded}
-use Rattle.texts.proofs.Decimal.{digits_ascii}
-use Rattle.texts.proofs.Padded.{all_padded}
 use Rattle.calendar.specs.Gregorian.{century, day_at, day_number, day_of_year, days_before, existing, exists, month_at, months_of, part_of, year_at}
 use Rattle.texts.specs.ThreeNumbers.{three_of, three_text}
-use Rattle.calendar.specs.Text.{NamesDay, date_of, date_text, day_of_three}
+use Rattle.calendar.specs.Text.{NamesDay, ReadsDate, date_of, date_text, day_of_three}
+use Rattle.std.specs.Option.{option_map}
+use Rattle.std.specs.Result.{result_ok}
+use Rattle.calendar.specs.Dates.{number}
+use Rattle.calendar.specs.declared.date.Date.{Date}
 use Rattle.calendar.proofs.Parts.{century_days, century_length, exists_parts, month_most, month_next, months_all, months_length, part_at, part_sound, year_length}
 use Rattle.texts.proofs.ThreeNumbers.{three_back, three_text_lem}
 
@@ -102,17 +102,17 @@ one_text text n s =
     ∙ ap (λ (k : ℕ). three_text 4 45 (year_at (day_number s.year s.month s.day)) (month_at (day_number s.year s.month s.day)) k) (sym b.2)
     ∙ ap date_text s.is
 
+pub reads_date : (text : List ℕ) (o : Option ℕ) → o ≡ date_of text → ReadsDate text o
+reads_date text o e n = (λ s. e ∙ date_read text n s, λ k. date_names text n (sym e ∙ k))
+
+pub read_once : {E : Type 0} (text : List ℕ) (r : Result Date E) → option_map number (result_ok r) ≡ date_of text → IfOk r (λ d. text ≡ date_text (number d))
+read_once text (Err _) e = tt
+read_once text (Ok d) e = one_text text (number d) (date_names text (number d) (sym e))
+
 pub text_names : (n : ℕ) → n < 36525 → NamesDay (date_text n) n
 text_names n h =
     let c = civil_of n h in
     record { year = year_at n; month = month_at n; day = day_at n; spelt = refl; there = c.0; is = c.1 }
 
-pub date_ascii : (n : ℕ) → IsAscii (date_text n)
-date_ascii n =
-    let Y : List ℕ = padded 4 (year_at n) in
-    let M : List ℕ = padded 2 (month_at n) in
-    let D : List ℕ = padded 2 (day_at n) in
-    let P : ℕ → Type 0 = λ b. b < 128 in
-    IsAscii-from_all (date_text n)
-    (All-append P Y (45 ∷ (M ++ (45 ∷ D))) (digits_ascii Y (all_padded 4 (year_at n)))
-    (omega arith, All-append P M (45 ∷ D) (digits_ascii M (all_padded 2 (month_at n))) (omega arith, digits_ascii D (all_padded 2 (day_at n)))))
+pub text_back : (text : List ℕ) (n : ℕ) → n < 36525 → text ≡ date_text n → date_of text ≡ Some n
+text_back text n h e = ap date_of e ∙ date_read (date_text n) n (text_names n h)
