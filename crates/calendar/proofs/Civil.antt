@@ -34,13 +34,8 @@ civil_of n h =
     let ed : 1 + d - 1 ≡ d = omega arith in
     let ey : y - 2000 ≡ i = omega arith in
     let short : 1 + d ≤ get_or (months_of y) (1 + m - 1) 0 = rw em (omega (arith, q.1)) in
-    let sum_is : days_before century i + days_before (months_of y) m + d ≡ n = omega (arith, p.2, q.2) in (
-      grind (arith, nat_tests),
-      ap (λ (k : ℕ). days_before century k + days_before (months_of y) (1 + m - 1) + (1 + d - 1)) ey
-          ∙ ap (λ (k : ℕ). days_before century i + days_before (months_of y) k + (1 + d - 1)) em
-          ∙ ap (λ (k : ℕ). days_before century i + days_before (months_of y) m + k) ed
-          ∙ sum_is,
-    )
+    let sum_is : days_before century i + days_before (months_of y) m + d ≡ n = omega (arith, p.2, q.2) in
+    (grind (arith, nat_tests), rw (ey, em, ed) sum_is)
 
 -- the number of an existing day gives its year, month and day back
 pub civil_back : (y m d : ℕ) → exists y m d ≡ true → (year_at (day_number y m d) ≡ y) × (month_at (day_number y m d) ≡ m) × (day_at (day_number y m d) ≡ d)
@@ -77,13 +72,13 @@ day_of : (y m d n : ℕ) → existing y m d ≡ Some n → (exists y m d ≡ tru
 unfolding existing
 day_of y m d n e =
     elim (cases_Bool (exists y m d)) [
-      | inl t ↦ (t, let s : Some (day_number y m d) ≡ Some n = sym (cond-true (exists y m d) (Some (day_number y m d)) None t) ∙ e in cc)
-      | inr f ↦ (let s : None ≡ Some n = sym (cond-false (exists y m d) (Some (day_number y m d)) None f) ∙ e in let z : ◌≡◌ {A = ℕ} 0 1 = cc in absurd (omega arith))
+      | inl t ↦ (t, let s : Some (day_number y m d) ≡ Some n = rw t at e in cc)
+      | inr f ↦ (let s : None ≡ Some n = rw f at e in absurd (cc))
     ]
 
 -- what is read spells the day
 from_three : (text : List ℕ) (o : Option (ℕ × ℕ × ℕ)) (n : ℕ) → three_of 4 45 text ≡ o → day_of_three o ≡ Some n → NamesDay text n
-from_three text None n e h = let z : ◌≡◌ {A = ℕ} 0 1 = cc in absurd (omega arith)
+from_three text None n e h = absurd (cc)
 from_three text (Some p) n e h =
     let d = day_of p.0 p.1 p.2 n h in
     record { year = p.0; month = p.1; day = p.2; spelt = three_back 4 45 text p e; there = d.0; is = d.1 }
@@ -96,11 +91,7 @@ date_names text n e = from_three text (three_of 4 45 text) n refl e
 pub one_text : (text : List ℕ) (n : ℕ) → NamesDay text n → text ≡ date_text n
 one_text text n s =
     let b = civil_back s.year s.month s.day s.there in
-    s.spelt
-    ∙ ap (λ (k : ℕ). three_text 4 45 k s.month s.day) (sym b.0)
-    ∙ ap (λ (k : ℕ). three_text 4 45 (year_at (day_number s.year s.month s.day)) k s.day) (sym b.1)
-    ∙ ap (λ (k : ℕ). three_text 4 45 (year_at (day_number s.year s.month s.day)) (month_at (day_number s.year s.month s.day)) k) (sym b.2)
-    ∙ ap date_text s.is
+    cc
 
 pub reads_date : (text : List ℕ) (o : Option ℕ) → o ≡ date_of text → ReadsDate text o
 reads_date text o e n = (λ s. e ∙ date_read text n s, λ k. date_names text n (sym e ∙ k))
