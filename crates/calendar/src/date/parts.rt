@@ -54,11 +54,11 @@ impl Date {
             return None;
         }
         let months = month - 1;
-        if day as u16 > year.month_length(months) {
+        if u16::from(day) > year.month_length(months) {
             return None;
         }
         Some(Date {
-            number: year.first_day() + year.before_month(months) + (day - 1) as u16,
+            number: year.first_day() + year.before_month(months) + u16::from(day - 1),
         })
     }
 

@@ -44,9 +44,9 @@ impl Date {
     {
         let day = civil(self);
         let mut text = *b"0000-00-00";
-        write_digits(&mut text[0..4], day.year.number as u128);
-        write_digits(&mut text[5..7], day.month as u128);
-        write_digits(&mut text[8..10], day.day as u128);
+        write_digits(&mut text[0..4], u128::from(day.year.number));
+        write_digits(&mut text[5..7], u128::from(day.month));
+        write_digits(&mut text[8..10], u128::from(day.day));
         text
     }
 }

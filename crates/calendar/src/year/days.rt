@@ -48,7 +48,7 @@ impl Year {
         ensures value { result ≡ days_before (months_of self.number) months }
         ensures bound { result ≤ 366 }
     {
-        self.month_starts()[months as usize]
+        self.month_starts()[usize::from(months)]
     }
 
     // The length of the month that so many months precede.

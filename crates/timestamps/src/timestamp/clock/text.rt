@@ -19,7 +19,7 @@ impl TimeOfDay {
             return None;
         }
         Some(TimeOfDay {
-            second: hour as u32 * 3600 + minute as u32 * 60 + second as u32,
+            second: u32::from(hour) * 3600 + u32::from(minute) * 60 + u32::from(second),
         })
     }
 
@@ -28,9 +28,9 @@ impl TimeOfDay {
         ensures { result ≡ clock_text (second_of_day self) }
     {
         let mut text = *b"hh:mm:ss";
-        write_digits(&mut text[0..2], (self.second / 3600) as u128);
-        write_digits(&mut text[3..5], (self.second / 60 % 60) as u128);
-        write_digits(&mut text[6..8], (self.second % 60) as u128);
+        write_digits(&mut text[0..2], u128::from(self.second / 3600));
+        write_digits(&mut text[3..5], u128::from(self.second / 60 % 60));
+        write_digits(&mut text[6..8], u128::from(self.second % 60));
         text
     }
 }
