@@ -10,7 +10,3 @@ pub struct DayFacts {
     pub next: Option<BusinessDay>,
     pub second: Option<BusinessDay>,
 }
-
-// A business day that follows, as it is told.
-#[derive(Clone, Copy)]
-pub(crate) struct Following(pub(crate) Option<BusinessDay>);

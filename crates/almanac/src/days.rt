@@ -5,7 +5,7 @@ ghost use Rattle.business.specs.BusinessDays.{day_no};
 ghost use Rattle.calendar.specs.Text.{date_of};
 ghost use Rattle.almanac.specs.Days.{day_or_never, facts_text, shown_facts, told_facts};
 
-use crate::day_facts::{DayFacts, Following};
+use crate::day_facts::DayFacts;
 use business::business_day::BusinessDay;
 use business::business_day::open_days::is_business_day;
 use calendar::date::Date;
@@ -25,6 +25,10 @@ pub fn look_up(text: &[u8]) -> Result<DayFacts, Refusal>
         second: BusinessDay::second_after(date),
     })
 }
+
+// A business day that follows, as it is told.
+#[derive(Clone, Copy)]
+struct Following(Option<BusinessDay>);
 
 impl fmt::Display for Following {
     ghost output = { λ f. Some (day_or_never (option_map day_no f.0)) };

@@ -17,15 +17,15 @@ pub part_at : (ls : List ℕ) (i r : ℕ) → i < length ls → r < get_or ls i 
 part_at [] i r h k = absurd (omega arith)
 part_at (l ∷ ls) zero r h k =
     let e : 0 + r ≡ r = omega arith in
-    ap (part_of (l ∷ ls)) e ∙ cond-true (ltb r l) (0, r) (next_part (part_of ls (r - l))) (lt-ltb r l k)
+    let t : ltb r l ≡ true = lt-ltb r l k in
+    rw (e, t)
 part_at (l ∷ ls) (suc i) r h k =
     let n : ℕ = l + days_before ls i + r in
-    let e : days_before (l ∷ ls) (suc i) + r ≡ n = ap (λ (x : ℕ). x + r) (before_next l ls i) in
+    let e : days_before (l ∷ ls) (suc i) + r ≡ n = rw (before_next l ls i) refl in
+    let f : ltb n l ≡ false = le-ltb n l (omega arith) in
     let m : n - l ≡ days_before ls i + r = omega arith in
-    ap (part_of (l ∷ ls)) e
-    ∙ cond-false (ltb n l) (0, n) (next_part (part_of ls (n - l))) (le-ltb n l (omega arith))
-    ∙ ap (λ (x : ℕ). next_part (part_of ls x)) m
-    ∙ ap next_part (part_at ls i r (omega arith) k)
+    let q : part_of ls (days_before ls i + r) ≡ (i, r) = part_at ls i r (omega arith) k in
+    ap (part_of (l ∷ ls)) e ∙ rw (f, m, q) refl
 
 -- the part that begins on day n or before and ends after it
 pub part_found : (ls : List ℕ) (n i : ℕ) → i < length ls → days_before ls i ≤ n → n < days_before ls (i + 1) → part_of ls n ≡ (i, n - days_before ls i)
@@ -38,15 +38,11 @@ pub part_sound : (ls : List ℕ) (n : ℕ) → n < sum ls → ((part_of ls n).0 
 part_sound [] n h = absurd (omega arith)
 part_sound (l ∷ ls) n h =
     elim (cases_lt n l) [
-      | inl lt ↦
-          let e : part_of (l ∷ ls) n ≡ (0, n) = cond-true (ltb n l) (0, n) (next_part (part_of ls (n - l))) (lt-ltb n l lt) in
-          let P : ℕ × ℕ → Type 0 = λ p. (p.0 < length (l ∷ ls)) × (p.1 < get_or (l ∷ ls) p.0 0) × (days_before (l ∷ ls) p.0 + p.1 ≡ n) in
-          subst P (sym e) (omega arith, lt, omega arith)
+      | inl lt ↦ (let t : ltb n l ≡ true = lt-ltb n l lt in rw t (omega arith, lt, omega arith))
       | inr le ↦
-          let e : part_of (l ∷ ls) n ≡ next_part (part_of ls (n - l)) = cond-false (ltb n l) (0, n) (next_part (part_of ls (n - l))) (le-ltb n l le) in
-          let P : ℕ × ℕ → Type 0 = λ p. (p.0 < length (l ∷ ls)) × (p.1 < get_or (l ∷ ls) p.0 0) × (days_before (l ∷ ls) p.0 + p.1 ≡ n) in
+          let f : ltb n l ≡ false = le-ltb n l le in
           let r = part_sound ls (n - l) (omega (arith, sum_by-cons (λ x. x) l ls)) in
-          subst P (sym e) (omega (arith, r.0), r.1, omega (arith, r.2, before_next l ls (part_of ls (n - l)).0))
+          rw f (omega (arith, r.0), r.1, omega (arith, r.2, before_next l ls (part_of ls (n - l)).0))
     ]
 
 -- which of the hundred years has day n

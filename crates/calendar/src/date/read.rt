@@ -43,7 +43,7 @@ impl Date {
         ensures ascii { IsAscii result }
     {
         let day = civil(self);
-        let mut text = *b"0000-00-00";
+        let mut text = *b"YYYY-MM-DD";
         write_digits(&mut text[0..4], u128::from(day.year.number));
         write_digits(&mut text[5..7], u128::from(day.month));
         write_digits(&mut text[8..10], u128::from(day.day));

@@ -19,7 +19,7 @@ fn is_off_exchange(venue: Option<Venue>) -> bool
 }
 
 impl Timestamp {
-    // Whether both are the same instant.
+    // Whether both are the same instant: the derived equality, told of instants.
     pub fn same_instant(self, other: Timestamp) -> bool
         ensures { result ≡ same_instant (instant self) (instant other) }
     {
