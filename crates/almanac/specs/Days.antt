@@ -1,14 +1,13 @@
 -- What is told of a day: whether it is a business day, and which business days follow.
-use Rattle.std.specs.Prelude.{ℕ, Bool, true, false, List, ◌++◌, Some, None, codes, Option}
+use Rattle.std.specs.Prelude.{ℕ, Bool, true, false, List, ◌++◌, Some, None, Ok, Err, codes, Option, Result}
 use Rattle.std.specs.Option.{option_map}
 use Rattle.business.specs.BusinessDays.{day_no}
 use Rattle.business.specs.TargetDays.{closed, next_business, second_business}
 use Rattle.calendar.specs.Dates.{number}
 use Rattle.calendar.specs.Text.{date_of, date_text}
+use Rattle.refusals.specs.declared.refusal.Refusal.{Refusal}
 use Rattle.refusals.specs.Words.{RefusalParts, parts_of, refusal_text}
 use Rattle.almanac.specs.declared.day_facts.DayFacts.{DayFacts}
-use Rattle.almanac.specs.declared.day_facts.DayFacts.TheVariants.{Known, Refused}
-use Rattle.almanac.specs.declared.day_facts.Following.{Following}
 
 abbrev pub closed_text : Bool → List ℕ
 closed_text true = codes " closed"
@@ -34,9 +33,9 @@ abbrev pub day_text : List ℕ → List ℕ
 day_text word = codes "day " ++ facts_text (date_of word)
 
 -- what each answer tells
-abbrev pub following_day : Following → Option ℕ
-following_day f = option_map day_no f.day
+abbrev pub told_facts : DayFacts → List ℕ
+told_facts f = known_text (number f.date) f.closed (option_map day_no f.next) (option_map day_no f.second)
 
-abbrev pub shown_facts : DayFacts → List ℕ
-shown_facts (Known date isClosed next second) = known_text (number date) isClosed (following_day next) (following_day second)
-shown_facts (Refused refusal) = refusal_text (parts_of refusal)
+abbrev pub shown_facts : Result DayFacts Refusal → List ℕ
+shown_facts (Ok f) = told_facts f
+shown_facts (Err refusal) = refusal_text (parts_of refusal)

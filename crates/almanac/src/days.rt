@@ -1,9 +1,11 @@
 // Looks a day up as a journal spells it.
 ghost use Rattle.std.specs.Prelude.{◌≡◌, Some};
+ghost use Rattle.std.specs.Option.{option_map};
+ghost use Rattle.business.specs.BusinessDays.{day_no};
 ghost use Rattle.calendar.specs.Text.{date_of};
-ghost use Rattle.almanac.specs.Days.{day_or_never, facts_text, following_day, shown_facts};
+ghost use Rattle.almanac.specs.Days.{day_or_never, facts_text, shown_facts, told_facts};
 
-use crate::day_facts::{DayFacts, Following};
+use crate::day_facts::DayFacts;
 use business::business_day::BusinessDay;
 use business::business_day::open_days::is_business_day;
 use calendar::date::Date;
@@ -11,27 +13,28 @@ use refusals::refusal::Refusal;
 use refusals::tag::Tag;
 use std::fmt;
 
-// What the calendar tells of the day that a text names.
-pub fn look_up(text: &[u8]) -> DayFacts
+// What the calendar tells of the day that a text names. A text that names none is a bad field.
+pub fn look_up(text: &[u8]) -> Result<DayFacts, Refusal>
     ensures { shown_facts result ≡ facts_text (date_of text.now) }
 {
-    let Ok(date) = Date::read(text) else {
-        return DayFacts::Refused(Refusal::BadField(Tag::EligibleDate));
-    };
-    let next = Following {
-        day: BusinessDay::after(date),
-    };
-    let second = Following {
-        day: BusinessDay::second_after(date),
-    };
-    DayFacts::Known(date, !is_business_day(date), next, second)
+    let date = Date::read(text).map_err(|_| Refusal::BadField(Tag::EligibleDate))?;
+    Ok(DayFacts {
+        date,
+        closed: !is_business_day(date),
+        next: BusinessDay::after(date),
+        second: BusinessDay::second_after(date),
+    })
 }
 
+// A business day that follows, as it is told.
+#[derive(Clone, Copy)]
+struct Following(Option<BusinessDay>);
+
 impl fmt::Display for Following {
-    ghost output = { λ f. Some (day_or_never (following_day f)) };
+    ghost output = { λ f. Some (day_or_never (option_map day_no f.0)) };
 
     fn fmt<W: fmt::Write>(&self, f: &mut fmt::Formatter<W>) -> fmt::Result {
-        match self.day {
+        match self.0 {
             Some(day) => {
                 let date = day.date();
                 write!(f, "{date}")
@@ -42,17 +45,13 @@ impl fmt::Display for Following {
 }
 
 impl fmt::Display for DayFacts {
-    ghost output = { λ d. Some (shown_facts d) };
+    ghost output = { λ d. Some (told_facts d) };
 
     fn fmt<W: fmt::Write>(&self, f: &mut fmt::Formatter<W>) -> fmt::Result {
-        match self {
-            DayFacts::Known(date, true, next, second) => {
-                write!(f, "{date} closed next {next} second {second}")
-            }
-            DayFacts::Known(date, false, next, second) => {
-                write!(f, "{date} business next {next} second {second}")
-            }
-            DayFacts::Refused(refusal) => write!(f, "{refusal}"),
-        }
+        let date = self.date;
+        let kind = if self.closed { "closed" } else { "business" };
+        let next = Following(self.next);
+        let second = Following(self.second);
+        write!(f, "{date} {kind} next {next} second {second}")
     }
 }

@@ -12,8 +12,10 @@ mod tests {
     use std::test::Fail;
 
     fn is_told(rt: &impl Abort, heap: Global, text: &[u8], told: &str) -> Result<(), Fail> {
-        let facts = look_up(text);
-        let printed = format!(in heap; "{facts}")?;
+        let printed = match look_up(text) {
+            Ok(facts) => format!(in heap; "{facts}")?,
+            Err(refusal) => format!(in heap; "{refusal}")?,
+        };
         assert!(rt; printed.as_str() == told);
         Ok(())
     }

@@ -1,15 +1,15 @@
 -- A day's number and its year, month and day give each other, and so do a day's number and its text.
-use Rattle.std.proofs.Common.{◌≡◌, ℕ, ◌+◌, ◌-◌, ◌<◌, ◌≤◌, true, List, ◌∷◌, ◌++◌, get_or, Some, None, IsAscii, sum, Option, sym, refl, ap, ◌∙◌, inl, inr, arith}
-use Rattle.std.proofs.ByRecursion.{IsAscii-from_all, All-append}
+use Rattle.std.proofs.Common.{◌≡◌, ℕ, ◌+◌, ◌-◌, ◌<◌, ◌≤◌, true, List, get_or, Some, None, sum, Option, IfOk, Ok, Err, Result, sym, refl, ap, ◌∙◌, inl, inr, arith}
 use Rattle.std.proofs.lemmas.List.{take_all}
 use Rattle.std.proofs.lemmas.Bool.{cases_Bool, cond-false, cond-true}
 use Rattle.std.proofs.lemmas.Bool.Decides.{nat_tests}
-use Rattle.texts.specs.Numerals.{padded}
-use Rattle.texts.proofs.Decimal.{digits_ascii}
-use Rattle.texts.proofs.Padded.{all_padded}
 use Rattle.calendar.specs.Gregorian.{century, day_at, day_number, day_of_year, days_before, existing, exists, month_at, months_of, part_of, year_at}
 use Rattle.texts.specs.ThreeNumbers.{three_of, three_text}
-use Rattle.calendar.specs.Text.{NamesDay, date_of, date_text, day_of_three}
+use Rattle.calendar.specs.Text.{NamesDay, ReadsDate, date_of, date_text, day_of_three}
+use Rattle.std.specs.Option.{option_map}
+use Rattle.std.specs.Result.{result_ok}
+use Rattle.calendar.specs.Dates.{number}
+use Rattle.calendar.specs.declared.date.Date.{Date}
 use Rattle.calendar.proofs.Parts.{century_days, century_length, exists_parts, month_most, month_next, months_all, months_length, part_at, part_sound, year_length}
 use Rattle.texts.proofs.ThreeNumbers.{three_back, three_text_lem}
 
@@ -34,13 +34,8 @@ civil_of n h =
     let ed : 1 + d - 1 ≡ d = omega arith in
     let ey : y - 2000 ≡ i = omega arith in
     let short : 1 + d ≤ get_or (months_of y) (1 + m - 1) 0 = rw em (omega (arith, q.1)) in
-    let sum_is : days_before century i + days_before (months_of y) m + d ≡ n = omega (arith, p.2, q.2) in (
-      grind (arith, nat_tests),
-      ap (λ (k : ℕ). days_before century k + days_before (months_of y) (1 + m - 1) + (1 + d - 1)) ey
-          ∙ ap (λ (k : ℕ). days_before century i + days_before (months_of y) k + (1 + d - 1)) em
-          ∙ ap (λ (k : ℕ). days_before century i + days_before (months_of y) m + k) ed
-          ∙ sum_is,
-    )
+    let sum_is : days_before century i + days_before (months_of y) m + d ≡ n = omega (arith, p.2, q.2) in
+    (grind (arith, nat_tests), rw (ey, em, ed) sum_is)
 
 -- the number of an existing day gives its year, month and day back
 pub civil_back : (y m d : ℕ) → exists y m d ≡ true → (year_at (day_number y m d) ≡ y) × (month_at (day_number y m d) ≡ m) × (day_at (day_number y m d) ≡ d)
@@ -77,13 +72,13 @@ day_of : (y m d n : ℕ) → existing y m d ≡ Some n → (exists y m d ≡ tru
 unfolding existing
 day_of y m d n e =
     elim (cases_Bool (exists y m d)) [
-      | inl t ↦ (t, let s : Some (day_number y m d) ≡ Some n = sym (cond-true (exists y m d) (Some (day_number y m d)) None t) ∙ e in cc)
-      | inr f ↦ (let s : None ≡ Some n = sym (cond-false (exists y m d) (Some (day_number y m d)) None f) ∙ e in let z : ◌≡◌ {A = ℕ} 0 1 = cc in absurd (omega arith))
+      | inl t ↦ (t, let s : Some (day_number y m d) ≡ Some n = rw t at e in cc)
+      | inr f ↦ (let s : None ≡ Some n = rw f at e in absurd (cc))
     ]
 
 -- what is read spells the day
 from_three : (text : List ℕ) (o : Option (ℕ × ℕ × ℕ)) (n : ℕ) → three_of 4 45 text ≡ o → day_of_three o ≡ Some n → NamesDay text n
-from_three text None n e h = let z : ◌≡◌ {A = ℕ} 0 1 = cc in absurd (omega arith)
+from_three text None n e h = absurd (cc)
 from_three text (Some p) n e h =
     let d = day_of p.0 p.1 p.2 n h in
     record { year = p.0; month = p.1; day = p.2; spelt = three_back 4 45 text p e; there = d.0; is = d.1 }
@@ -96,23 +91,19 @@ date_names text n e = from_three text (three_of 4 45 text) n refl e
 pub one_text : (text : List ℕ) (n : ℕ) → NamesDay text n → text ≡ date_text n
 one_text text n s =
     let b = civil_back s.year s.month s.day s.there in
-    s.spelt
-    ∙ ap (λ (k : ℕ). three_text 4 45 k s.month s.day) (sym b.0)
-    ∙ ap (λ (k : ℕ). three_text 4 45 (year_at (day_number s.year s.month s.day)) k s.day) (sym b.1)
-    ∙ ap (λ (k : ℕ). three_text 4 45 (year_at (day_number s.year s.month s.day)) (month_at (day_number s.year s.month s.day)) k) (sym b.2)
-    ∙ ap date_text s.is
+    cc
+
+pub reads_date : (text : List ℕ) (o : Option ℕ) → o ≡ date_of text → ReadsDate text o
+reads_date text o e n = (λ s. e ∙ date_read text n s, λ k. date_names text n (sym e ∙ k))
+
+pub read_once : {E : Type 0} (text : List ℕ) (r : Result Date E) → option_map number (result_ok r) ≡ date_of text → IfOk r (λ d. text ≡ date_text (number d))
+read_once text (Err _) e = tt
+read_once text (Ok d) e = one_text text (number d) (date_names text (number d) (sym e))
 
 pub text_names : (n : ℕ) → n < 36525 → NamesDay (date_text n) n
 text_names n h =
     let c = civil_of n h in
     record { year = year_at n; month = month_at n; day = day_at n; spelt = refl; there = c.0; is = c.1 }
 
-pub date_ascii : (n : ℕ) → IsAscii (date_text n)
-date_ascii n =
-    let Y : List ℕ = padded 4 (year_at n) in
-    let M : List ℕ = padded 2 (month_at n) in
-    let D : List ℕ = padded 2 (day_at n) in
-    let P : ℕ → Type 0 = λ b. b < 128 in
-    IsAscii-from_all (date_text n)
-    (All-append P Y (45 ∷ (M ++ (45 ∷ D))) (digits_ascii Y (all_padded 4 (year_at n)))
-    (omega arith, All-append P M (45 ∷ D) (digits_ascii M (all_padded 2 (month_at n))) (omega arith, digits_ascii D (all_padded 2 (day_at n)))))
+pub text_back : (text : List ℕ) (n : ℕ) → n < 36525 → text ≡ date_text n → date_of text ≡ Some n
+text_back text n h e = ap date_of e ∙ date_read (date_text n) n (text_names n h)

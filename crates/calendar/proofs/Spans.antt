@@ -1,4 +1,4 @@
--- Days counted by years and months: the closed forms of the code are the sums of the definitions.
+-- Days counted by years and months: the closed forms and tables of the code are the sums of the definitions.
 use Rattle.std.proofs.Common.{◌≡◌, ℕ, zero, suc, ◌+◌, ◌*◌, ◌/◌, ◌<◌, Bool, true, ◌&&◌, eqb, refl}
 use Rattle.std.proofs.lemmas.Bool.Decides.{Decides-below_and, Decides-eqb}
 use Rattle.calendar.specs.Gregorian.{century, days_before}

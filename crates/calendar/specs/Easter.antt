@@ -1,6 +1,6 @@
 -- Easter in the Gregorian calendar: the first Sunday after the paschal full moon.
-use Rattle.std.specs.Prelude.{ℕ, ◌+◌, ◌-◌, ◌%◌, cond, ◌&&◌, List, [], ◌∷◌, Some, None, Option, nat_le, slice_index_or}
-use Rattle.calendar.specs.Gregorian.{day_number, weekday_at}
+use Rattle.std.specs.Prelude.{ℕ, ◌+◌, ◌-◌, ◌%◌, cond, List, [], ◌∷◌, Some, None, Option, slice_index_or}
+use Rattle.calendar.specs.Gregorian.{day_number, in_century, weekday_at}
 
 -- month and day of the full moon in each year of the cycle of nineteen, from the first on; the table holds from 1900 to 2199
 abbrev pub full_moons : List (ℕ × ℕ)
@@ -18,4 +18,4 @@ unfoldable pub easter_sunday : ℕ → ℕ
 easter_sunday year = sunday_after (full_moon year)
 
 abbrev pub easter_in : ℕ → Option ℕ
-easter_in year = cond (nat_le 2000 year && nat_le year 2099) (Some (easter_sunday year)) None
+easter_in year = cond (in_century year) (Some (easter_sunday year)) None

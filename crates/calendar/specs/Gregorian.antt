@@ -39,9 +39,17 @@ abbrev pub part_of : List ℕ → ℕ → ℕ × ℕ
 part_of [] n = (0, n)
 part_of (l ∷ ls) n = cond (nat_lt n l) (0, n) (next_part (part_of ls (n - l)))
 
+-- whether a year is one of these
+abbrev pub in_century : ℕ → Bool
+in_century year = nat_le 2000 year && nat_le year 2099
+
+-- the number of a year, if it is one of these
+abbrev pub existing_year : ℕ → Option ℕ
+existing_year year = cond (in_century year) (Some year) None
+
 -- whether there is such a day in these years
 abbrev pub exists : ℕ → ℕ → ℕ → Bool
-exists year month day = (nat_le 2000 year && nat_le year 2099) && ((nat_le 1 month && nat_le month 12) && (nat_le 1 day && nat_le day (slice_index (months_of year) (month - 1))))
+exists year month day = in_century year && ((nat_le 1 month && nat_le month 12) && (nat_le 1 day && nat_le day (slice_index (months_of year) (month - 1))))
 
 -- its number
 abbrev pub day_number : ℕ → ℕ → ℕ → ℕ

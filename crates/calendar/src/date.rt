@@ -1,7 +1,6 @@
 // A day of the years 2000 to 2099.
 ghost use Rattle.std.specs.Prelude.{◌<◌};
 
-mod days;
 pub mod display;
 pub mod easter;
 pub mod parts;
@@ -16,7 +15,7 @@ pub struct Date {
 }
 
 // A day of the week.
-#[derive(Clone, Copy)]
+#[derive(Clone, Copy, Debug, PartialEq, Eq)]
 pub enum Weekday {
     Monday,
     Tuesday,

@@ -3,3 +3,4 @@
 
 pub mod date;
 pub mod laws;
+pub mod year;

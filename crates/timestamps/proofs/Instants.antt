@@ -1,11 +1,11 @@
 -- Times and timestamps, read and written.
-use Rattle.std.proofs.Common.{◌≡◌, ℕ, ◌+◌, ◌*◌, ◌/◌, ◌%◌, ◌<◌, ◌≤◌, true, false, eqb, List, [], ◌∷◌, ◌++◌, length, get_or, take, drop, Some, None, Option, sym, refl, ap, ◌∙◌, inl, inr, arith}
+use Rattle.std.proofs.Common.{◌≡◌, ℕ, ◌+◌, ◌*◌, ◌/◌, ◌%◌, ◌<◌, ◌≤◌, true, eqb, List, [], ◌∷◌, ◌++◌, length, get_or, take, drop, Some, None, Option, sym, refl, ap, ◌∙◌, inl, inr, arith}
 use Rattle.std.proofs.lemmas.List.{drop_all, drop-drop, drop_more, take-append-drop}
 use Rattle.std.proofs.lemmas.Bool.{and_parts, cases_Bool, cond-false, cond-true, eqb-true}
 use Rattle.std.proofs.lemmas.Bool.Decides.{nat_tests}
 use Rattle.texts.specs.ThreeNumbers.{three_of, three_text}
 use Rattle.calendar.specs.Text.{NamesDay, date_of, date_text}
-use Rattle.timestamps.specs.Times.{NamesInstant, clock_of, clock_text, has_marks, instant_at, is_time, second_of_three, timestamp_of, timestamp_text}
+use Rattle.timestamps.specs.Times.{NamesInstant, ReadsTimestamp, clock_of, clock_text, has_marks, instant_at, is_time, second_of_three, timestamp_of, timestamp_text}
 use Rattle.calendar.proofs.Civil.{date_names, date_read, one_text, text_names}
 use Rattle.texts.proofs.ThreeNumbers.{three_back, three_text_lem}
 
@@ -27,7 +27,7 @@ record NamesTime (text : List ℕ) (n : ℕ) : Type 0 where
   is : hour * 3600 + minute * 60 + second ≡ n
 
 from_three : (text : List ℕ) (o : Option (ℕ × ℕ × ℕ)) (n : ℕ) → three_of 2 58 text ≡ o → second_of_three o ≡ Some n → NamesTime text n
-from_three text None n e h = let z : ◌≡◌ {A = ℕ} 0 1 = cc in absurd (omega arith)
+from_three text None n e h = absurd (cc)
 from_three text (Some p) n e h =
     elim (cases_Bool (is_time p.0 p.1 p.2)) [
       | inl t ↦
@@ -44,7 +44,7 @@ from_three text (Some p) n e h =
           }
       | inr f ↦
           let s : None ≡ Some n = sym (cond-false (is_time p.0 p.1 p.2) (Some (p.0 * 3600 + p.1 * 60 + p.2)) None f) ∙ h in
-          let z : ◌≡◌ {A = ℕ} 0 1 = cc in absurd (omega arith)
+          absurd (cc)
     ]
 
 clock_names : (text : List ℕ) (n : ℕ) → clock_of text ≡ Some n → NamesTime text n
@@ -74,8 +74,8 @@ split_stamp t len =
     sym (take-append-drop 10 t) ∙ ap (λ (u : List ℕ). take 10 t ++ u) (drop_more t 10 0 (omega arith) ∙ ap (λ (u : List ℕ). get_or t 10 0 ∷ u) rest)
 
 from_parts : (text : List ℕ) (day second : Option ℕ) (i : ℕ) → has_marks text ≡ true → date_of (take 10 text) ≡ day → clock_of (take 8 (drop 11 text)) ≡ second → instant_at day second ≡ Some i → NamesInstant text i
-from_parts text None second i h d c e = let z : ◌≡◌ {A = ℕ} 0 1 = cc in absurd (omega arith)
-from_parts text (Some day) None i h d c e = let z : ◌≡◌ {A = ℕ} 0 1 = cc in absurd (omega arith)
+from_parts text None second i h d c e = absurd (cc)
+from_parts text (Some day) None i h d c e = absurd (cc)
 from_parts text (Some day) (Some k) i h d c e =
     let t : NamesTime (take 8 (drop 11 text)) k = clock_names (take 8 (drop 11 text)) k c in
     let p = and_parts (eqb (length text) 20) _ h in
@@ -105,7 +105,7 @@ unfolding timestamp_of
 instant_names text i e =
     elim (cases_Bool (has_marks text)) [
       | inl t ↦ from_parts text (date_of (take 10 text)) (clock_of (take 8 (drop 11 text))) i t refl refl (sym (cond-true (has_marks text) _ None t) ∙ e)
-      | inr f ↦ (let s : None ≡ Some i = sym (cond-false (has_marks text) _ None f) ∙ e in let z : ◌≡◌ {A = ℕ} 0 1 = cc in absurd (omega arith))
+      | inr f ↦ (let s : None ≡ Some i = sym (cond-false (has_marks text) _ None f) ∙ e in absurd (cc))
     ]
 
 -- each instant has one text
@@ -118,13 +118,8 @@ one_stamp text i s =
     let h : i % 86400 / 3600 ≡ s.hour = omega (arith, second, s.hours, s.minutes, s.seconds) in
     let m : i % 86400 / 60 % 60 ≡ s.minute = omega (arith, second, s.hours, s.minutes, s.seconds) in
     let n : i % 86400 % 60 ≡ s.second = omega (arith, second, s.hours, s.minutes, s.seconds) in
-    let clock : clock_text (i % 86400) ≡ three_text 2 58 s.hour s.minute s.second =
-    ap (λ (x : ℕ). three_text 2 58 x (i % 86400 / 60 % 60) (i % 86400 % 60)) h
-    ∙ ap (λ (x : ℕ). three_text 2 58 s.hour x (i % 86400 % 60)) m
-    ∙ ap (three_text 2 58 s.hour s.minute) n in
-    s.spelt
-    ∙ ap (λ (t : List ℕ). t ++ (84 ∷ (three_text 2 58 s.hour s.minute s.second ++ (90 ∷ [])))) (one_text s.date s.day s.names ∙ ap date_text (sym day))
-    ∙ ap (λ (t : List ℕ). date_text (i / 86400) ++ (84 ∷ (t ++ (90 ∷ [])))) (sym clock)
+    let e : s.date ≡ date_text (i / 86400) = one_text s.date s.day s.names ∙ ap date_text (sym day) in
+    rw (h, m, n) (s.spelt ∙ ap (λ (t : List ℕ). t ++ (84 ∷ (three_text 2 58 s.hour s.minute s.second ++ (90 ∷ [])))) e)
 
 pub stamp_names : (i : ℕ) → i / 86400 < 36525 → NamesInstant (timestamp_text i) i
 stamp_names i h =
@@ -142,12 +137,8 @@ stamp_names i h =
       is = omega arith;
     }
 
--- what the reader answers where a mark is not in its place, where a part is not read, and where both are
-pub no_stamp : (text : List ℕ) → has_marks text ≡ false → None ≡ timestamp_of text
-unfolding timestamp_of
-no_stamp text h = sym (cond-false (has_marks text) _ None h)
+pub reads_stamp : (text : List ℕ) (o : Option ℕ) → o ≡ timestamp_of text → ReadsTimestamp text o
+reads_stamp text o e i = (λ s. e ∙ instant_read text i s, λ k. instant_names text i (sym e ∙ k))
 
-pub stamp_parts : (text : List ℕ) (day second : Option ℕ) → has_marks text ≡ true → day ≡ date_of (take 10 text) → second ≡ clock_of (take 8 (drop 11 text)) → instant_at day second ≡ timestamp_of text
-unfolding timestamp_of
-stamp_parts text day second h d c =
-    ap (λ (o : Option ℕ). instant_at o second) d ∙ ap (instant_at (date_of (take 10 text))) c ∙ sym (cond-true (has_marks text) _ None h)
+pub stamp_back : (text : List ℕ) (i : ℕ) → i / 86400 < 36525 → text ≡ timestamp_text i → timestamp_of text ≡ Some i
+stamp_back text i h e = ap timestamp_of e ∙ instant_read (timestamp_text i) i (stamp_names i h)

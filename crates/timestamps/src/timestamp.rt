@@ -1,6 +1,5 @@
 // A second of a day from 2000 to 2099, in UTC.
-ghost use Rattle.std.specs.Prelude.{◌<◌};
-
+use self::clock::TimeOfDay;
 use calendar::date::Date;
 
 pub mod checks;
@@ -8,10 +7,9 @@ mod clock;
 pub mod parts;
 pub mod read;
 
-// A day and the seconds of it that have passed.
+// A day and the time of that day.
 #[derive(Clone, Copy, Debug, PartialEq, Eq)]
 pub struct Timestamp {
     date: Date,
-    second: u32,
-    ghost within: { second < 86400 },
+    time: TimeOfDay,
 }

@@ -1,45 +1,36 @@
 // The business days that follow a day.
-ghost use Rattle.std.specs.Prelude.{◌≡◌};
+ghost use Rattle.std.specs.Prelude.{◌≡◌, ◌-◌};
 ghost use Rattle.std.specs.Option.{option_map};
 ghost use Rattle.calendar.specs.Dates.{number};
+ghost use Rattle.calendar.specs.Gregorian.{day_count};
 ghost use Rattle.business.specs.BusinessDays.{day_no};
-ghost use Rattle.business.specs.TargetDays.{FirstAfter, SecondAfter, due_day, next_business, second_business};
+ghost use Rattle.business.specs.TargetDays.{FirstAfter, SecondAfter, due_day, first_from, next_business, second_business};
 
 use super::BusinessDay;
 use calendar::date::Date;
-use std::cmp::Ordering;
 
-// The first business day after a day, if it is not past 2099.
-fn first_after(date: Date) -> Option<BusinessDay>
-    ensures value { option_map day_no result ≡ next_business (number date) }
-    ensures plain { FirstAfter (number date) (option_map day_no result) }
+// The first business day from a day on, if it is not past 2099.
+#[tactic(auto, using(std::proofs::lemmas::Bool::Decides::nat_tests, crate::proofs::Following::found_open, crate::proofs::Following::passed_closed, crate::proofs::Following::found_none))]
+fn first_open(date: Date) -> Option<BusinessDay>
+    ensures { option_map day_no result ≡ first_from (day_count - number date) (number date) }
 {
     let mut day = date;
-    while let Some(next) = day.next_day() {
-        if let Some(open) = BusinessDay::new(next) {
+    loop {
+        if let Some(open) = BusinessDay::new(day) {
             return Some(open);
         }
-        day = next;
+        day = day.next_day()?;
     }
-    None
-}
-
-// The first business day after the first.
-fn second_of(date: Date) -> Option<BusinessDay>
-    ensures value { option_map day_no result ≡ second_business (number date) }
-    ensures plain { SecondAfter (number date) (option_map day_no result) }
-{
-    let first = first_after(date)?;
-    first_after(first.date)
 }
 
 impl BusinessDay {
     // The first business day after a day, if it is not past 2099.
+    #[tactic(auto, using(std::proofs::lemmas::Bool::Decides::nat_tests, crate::proofs::Following::found_none), unfolding(crate::specs::TargetDays::next_business))]
     pub fn after(date: Date) -> Option<BusinessDay>
         ensures value { option_map day_no result ≡ next_business (number date) }
         ensures plain { FirstAfter (number date) (option_map day_no result) }
     {
-        first_after(date)
+        first_open(date.next_day()?)
     }
 
     // The second business day after a day, if it is not past 2099.
@@ -47,7 +38,7 @@ impl BusinessDay {
         ensures value { option_map day_no result ≡ second_business (number date) }
         ensures plain { SecondAfter (number date) (option_map day_no result) }
     {
-        second_of(date)
+        BusinessDay::after(BusinessDay::after(date)?.date)
     }
 
     // The due day of a report of day T that is entered today: the later of the second business day after T and the
@@ -55,11 +46,8 @@ impl BusinessDay {
     pub fn due(day_t: Date, today: BusinessDay) -> Option<BusinessDay>
         ensures { option_map day_no result ≡ due_day (number day_t) (day_no today) }
     {
-        let second = second_of(day_t)?;
-        let next = first_after(today.date)?;
-        match second.date.compare(next.date) {
-            Ordering::Less => Some(next),
-            _ => Some(second),
-        }
+        let second = BusinessDay::second_after(day_t)?;
+        let next = BusinessDay::after(today.date)?;
+        Some(second.max(next))
     }
 }

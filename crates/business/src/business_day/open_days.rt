@@ -16,44 +16,32 @@ use refusals::refusal::Refusal;
 fn is_weekend(date: Date) -> bool
     ensures { result ≡ weekend (number date) }
 {
-    match date.weekday() {
-        Weekday::Saturday | Weekday::Sunday => true,
-        _ => false,
-    }
+    matches!(date.weekday(), Weekday::Saturday | Weekday::Sunday)
 }
 
 fn is_fixed_holiday(date: Date) -> bool
     ensures { result ≡ fixed_holiday (month_at (number date)) (day_at (number date)) }
 {
-    match (date.month(), date.day()) {
-        (1, 1) | (5, 1) | (12, 25) | (12, 26) => true,
-        _ => false,
-    }
+    matches!(
+        (date.month(), date.day()),
+        (1, 1) | (5, 1) | (12, 25) | (12, 26)
+    )
 }
 
 fn is_easter_holiday(date: Date) -> bool
     ensures { result ≡ easter_holiday (number date) (easter_sunday (year_at (number date))) }
 {
-    let Some(easter) = Date::easter(date.year()) else {
-        // every year of a date has its Easter
-        unreachable()
-    };
     let day = date.day_count();
-    let sunday = easter.day_count();
+    let sunday = date.year().easter().day_count();
     day + 2 == sunday || day == sunday + 1
 }
 
 // Whether TARGET is closed on a day.
+#[tactic(auto, unfolding(crate::specs::TargetDays::closed))]
 fn is_closed(date: Date) -> bool
     ensures { result ≡ closed (number date) }
 {
-    if is_weekend(date) {
-        return true;
-    }
-    if is_fixed_holiday(date) {
-        return true;
-    }
-    is_easter_holiday(date)
+    is_weekend(date) || is_fixed_holiday(date) || is_easter_holiday(date)
 }
 
 // Whether TARGET is open on a day.
@@ -79,13 +67,10 @@ impl BusinessDay {
         ensures value { option_map day_no (result_ok result) ≡ opening_of text.now }
         ensures refusal { IfErr result (λ e. parts_of e ≡ not_a_business_day) }
     {
-        let Ok(date) = Date::read(text) else {
-            return Err(Refusal::NotABusinessDay);
-        };
-        match BusinessDay::new(date) {
-            Some(day) => Ok(day),
-            None => Err(Refusal::NotABusinessDay),
-        }
+        Date::read(text)
+            .ok()
+            .and_then(BusinessDay::new)
+            .ok_or(Refusal::NotABusinessDay)
     }
 
     pub fn date(self) -> Date

@@ -1,101 +1,70 @@
 // A date by its year, month and day, and its weekday.
-ghost use Rattle.std.specs.Prelude.{◌≡◌, ◌+◌, ◌-◌, ◌<◌, ◌≤◌, Some, IsAscii};
+ghost use Rattle.std.specs.Prelude.{◌≡◌, ◌-◌, ◌<◌};
 ghost use Rattle.std.specs.Option.{option_map};
-ghost use Rattle.calendar.specs.Gregorian.{century, day_at, day_of_year, days_before, existing, month_at, months_of, part_of, weekday_at, year_at};
-ghost use Rattle.calendar.specs.Dates.{number, weekday_number};
-ghost use Rattle.calendar.specs.Text.{date_of, date_text};
+ghost use Rattle.calendar.specs.Gregorian.{century, day_at, days_before, existing, month_at, months_of, part_of, weekday_at, year_at};
+ghost use Rattle.calendar.specs.Dates.{number, weekday_number, year_number};
 
-use super::days::{before_month, before_year, day_number};
 use super::{Date, Weekday};
+use crate::year::Year;
 
-// The year of a day.
-fn year_of(date: Date) -> u16
-    ensures value { result ≡ year_at (number date) }
-    ensures low { 2000 ≤ result }
-    ensures high { result ≤ 2099 }
-    ensures begun { days_before century (result - 2000) ≤ number date }
-    ensures ends { number date < days_before century (result - 2000 + 1) }
+// The year of a day, and the days of that year before it.
+fn split_year(date: Date) -> (Year, u16)
+    ensures parts { (result.0.number - 2000, result.1) ≡ part_of century (number date) }
+    ensures within { result.1 < days_before (months_of result.0.number) 12 }
 {
     // four years have 1,461 days, and the first of them is the leap year
-    let rest = date.number % 1461;
-    let more = if rest < 366 {
-        0
-    } else {
-        1 + (rest - 366) / 365
+    let years = date.number / 1461 * 4 + (date.number % 1461).saturating_sub(1) / 365;
+    let year = Year {
+        number: 2000 + years,
     };
-    2000 + date.number / 1461 * 4 + more
-}
-
-// The days of the year before this one.
-fn day_of_year(date: Date, year: u16) -> u16
-    requires low { 2000 ≤ year }
-    requires high { year ≤ 2099 }
-    requires begun { days_before century (year - 2000) ≤ number date }
-    requires ends { number date < days_before century (year - 2000 + 1) }
-    ensures value { result ≡ day_of_year (number date) }
-    ensures within { result < days_before (months_of year) 12 }
-{
-    date.number - before_year(year)
-}
-
-// The months before this day of a year, and the days of its month before it.
-fn split_month(year: u16, day: u16) -> (u16, u16)
-    requires { day < days_before (months_of year) 12 }
-    ensures parts { result ≡ part_of (months_of year) day }
-    ensures months { result.0 < 12 }
-    ensures days { result.1 < 31 }
-{
-    let mut months = 0;
-    while months < 11 && before_month(year, months + 1) <= day {
-        months += 1;
-    }
-    (months, day - before_month(year, months))
+    (year, date.number - year.first_day())
 }
 
 // A day as a calendar prints it.
 #[derive(Clone, Copy)]
 pub(super) struct CivilDay {
-    pub(super) year: u16,
+    pub(super) year: Year,
     pub(super) month: u8,
     pub(super) day: u8,
 }
 
+#[tactic(auto, unfolding(crate::specs::Gregorian::year_at, crate::specs::Gregorian::day_of_year, crate::specs::Gregorian::month_at, crate::specs::Gregorian::day_at))]
 pub(super) fn civil(date: Date) -> CivilDay
-    ensures year { result.year ≡ year_at (number date) }
+    ensures year { result.year.number ≡ year_at (number date) }
     ensures month { result.month ≡ month_at (number date) }
     ensures day { result.day ≡ day_at (number date) }
-    ensures low { 2000 ≤ result.year }
-    ensures high { result.year ≤ 2099 }
-    ensures months { result.month ≤ 12 }
-    ensures days { result.day ≤ 31 }
-    ensures reads_back { date_of (date_text (number date)) ≡ Some (number date) }
-    ensures ascii { IsAscii (date_text (number date)) }
 {
-    let year = year_of(date);
-    let (months, days) = split_month(year, day_of_year(date, year));
+    let (year, day_of_year) = split_year(date);
+    let (months, days) = year.split_month(day_of_year);
     CivilDay {
         year,
-        month: 1 + months as u8,
-        day: 1 + days as u8,
+        month: months + 1,
+        day: days + 1,
     }
 }
 
 impl Date {
     // The day of this year, month and day of the month, if there is one from 2000 to 2099.
+    #[tactic(auto, using(std::proofs::lemmas::Bool::Decides::nat_tests), unfolding(crate::specs::Gregorian::existing))]
     pub fn new(year: u16, month: u8, day: u8) -> Option<Date>
         ensures { option_map number result ≡ existing year month day }
     {
-        match day_number(year, month, day) {
-            Some(number) => Some(Date { number }),
-            None => None,
+        let year = Year::new(year)?;
+        if !(1..=12).contains(&month) || day < 1 {
+            return None;
         }
+        let months = month - 1;
+        if u16::from(day) > year.month_length(months) {
+            return None;
+        }
+        Some(Date {
+            number: year.first_day() + year.before_month(months) + u16::from(day - 1),
+        })
     }
 
-    // The year, from 2000 to 2099.
-    pub fn year(self) -> u16
-        ensures value { result ≡ year_at (number self) }
-        ensures low { 2000 ≤ result }
-        ensures high { result ≤ 2099 }
+    // The year.
+    pub fn year(self) -> Year
+        ensures { year_number result ≡ year_at (number self) }
     {
         civil(self).year
     }

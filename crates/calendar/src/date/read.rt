@@ -1,5 +1,5 @@
 // Reads a date from text, and writes it.
-ghost use Rattle.std.specs.Prelude.{◌≡◌, IfSome, IfOk, Some, IsAscii};
+ghost use Rattle.std.specs.Prelude.{◌≡◌, IfOk, Some, IsAscii};
 ghost use Rattle.std.specs.Option.{option_map};
 ghost use Rattle.std.specs.Result.{result_ok};
 ghost use Rattle.calendar.specs.Dates.{number};
@@ -7,21 +7,22 @@ ghost use Rattle.calendar.specs.Text.{ReadsDate, date_of, date_text};
 
 use super::Date;
 use super::parts::civil;
-use texts::numbers::{last_digit, read_three};
+use std::error::Error;
+use std::fmt;
+use texts::digits::write_digits;
+use texts::numbers::read_three;
 
 // The text names no day from 2000-01-01 to 2099-12-31.
-#[derive(Clone, Copy, Debug)]
+#[derive(Clone, Copy, Debug, PartialEq, Eq)]
 pub struct NotADate;
 
-// The day that a text names.
-fn read_date(text: &[u8]) -> Option<Date>
-    ensures value { option_map number result ≡ date_of text.now }
-    ensures plain { ReadsDate text.now (option_map number result) }
-    ensures one_text { IfSome result (λ d. text.now ≡ date_text (number d)) }
-{
-    let (year, month, day) = read_three(text, 4, b'-')?;
-    Date::new(year, month, day)
+impl fmt::Display for NotADate {
+    fn fmt<W: fmt::Write>(&self, f: &mut fmt::Formatter<W>) -> fmt::Result {
+        f.write_str("no day from 2000-01-01 to 2099-12-31")
+    }
 }
+
+impl Error for NotADate {}
 
 impl Date {
     // The day that a text names as YYYY-MM-DD.
@@ -30,10 +31,9 @@ impl Date {
         ensures plain { ReadsDate text.now (option_map number (result_ok result)) }
         ensures one_text { IfOk result (λ d. text.now ≡ date_text (number d)) }
     {
-        match read_date(text) {
-            Some(date) => Ok(date),
-            None => Err(NotADate),
-        }
+        read_three(text, 4, b'-')
+            .and_then(|(year, month, day)| Date::new(year, month, day))
+            .ok_or(NotADate)
     }
 
     // The day as YYYY-MM-DD.
@@ -43,17 +43,10 @@ impl Date {
         ensures ascii { IsAscii result }
     {
         let day = civil(self);
-        [
-            last_digit(day.year / 1000),
-            last_digit(day.year / 100),
-            last_digit(day.year / 10),
-            last_digit(day.year),
-            b'-',
-            last_digit((day.month / 10) as u16),
-            last_digit(day.month as u16),
-            b'-',
-            last_digit((day.day / 10) as u16),
-            last_digit(day.day as u16),
-        ]
+        let mut text = *b"YYYY-MM-DD";
+        write_digits(&mut text[0..4], u128::from(day.year.number));
+        write_digits(&mut text[5..7], u128::from(day.month));
+        write_digits(&mut text[8..10], u128::from(day.day));
+        text
     }
 }

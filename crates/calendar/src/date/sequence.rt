@@ -23,14 +23,15 @@ impl Date {
     pub fn next_day(self) -> Option<Date>
         ensures { option_map number result ≡ day_after (number self) }
     {
-        let count = self.day_count();
-        if count == LAST_DAY {
+        if self.number == LAST_DAY {
             return None;
         }
-        Some(Date { number: count + 1 })
+        Some(Date {
+            number: self.number + 1,
+        })
     }
 
-    // The order of days, the earlier before the later.
+    // The order of days, the earlier before the later: the derived order, told in the calendar's words.
     pub fn compare(self, other: Date) -> Ordering
         ensures { result ≡ day_order (number self) (number other) }
     {

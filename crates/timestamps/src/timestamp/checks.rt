@@ -15,14 +15,11 @@ const HOUR: u32 = 3600;
 fn is_off_exchange(venue: Option<Venue>) -> bool
     ensures { result ≡ named_off_exchange (option_map text_of venue) }
 {
-    match venue {
-        Some(venue) => venue.is_off_exchange(),
-        None => false,
-    }
+    venue.is_some_and(|venue| venue.is_off_exchange())
 }
 
 impl Timestamp {
-    // Whether both are the same instant.
+    // Whether both are the same instant: the derived equality, told of instants.
     pub fn same_instant(self, other: Timestamp) -> bool
         ensures { result ≡ same_instant (instant self) (instant other) }
     {
@@ -52,6 +49,6 @@ impl Timestamp {
         if is_off_exchange(venue) && is_off_exchange(other_venue) {
             return true;
         }
-        self.second.abs_diff(other.second) <= HOUR
+        self.time.second.abs_diff(other.time.second) <= HOUR
     }
 }

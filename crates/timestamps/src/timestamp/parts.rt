@@ -17,6 +17,6 @@ impl Timestamp {
     pub fn second_of_day(self) -> u32
         ensures { result ≡ instant self % day_seconds }
     {
-        self.second
+        self.time.second
     }
 }

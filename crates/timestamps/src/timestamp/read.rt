@@ -1,69 +1,49 @@
 // Reads a timestamp from text, and writes it.
-ghost use Rattle.std.specs.Prelude.{◌≡◌, ◌+◌, ◌*◌, ◌<◌, IfSome, IfOk, Some};
+ghost use Rattle.std.specs.Prelude.{◌≡◌, IfOk, Some};
 ghost use Rattle.std.specs.Option.{option_map};
 ghost use Rattle.std.specs.Result.{result_ok};
-ghost use Rattle.calendar.specs.Dates.{number};
-ghost use Rattle.timestamps.specs.Times.{ReadsTimestamp, day_seconds, timestamp_of, timestamp_text};
+ghost use Rattle.timestamps.specs.Times.{ReadsTimestamp, timestamp_of, timestamp_text};
 ghost use Rattle.timestamps.specs.Timestamps.{instant};
 
 use super::Timestamp;
-use super::clock::{clock_text, read_clock};
+use super::clock::TimeOfDay;
 use calendar::date::Date;
+use calendar::date::read::NotADate;
+use std::error::Error;
+use std::fmt;
 
 // The text names no second of a day from 2000-01-01 to 2099-12-31.
-#[derive(Clone, Copy, Debug)]
+#[derive(Clone, Copy, Debug, PartialEq, Eq)]
 pub struct NotATimestamp;
 
-// The instant that a text names.
-fn read_timestamp(text: &[u8]) -> Option<Timestamp>
-    ensures value { option_map instant result ≡ timestamp_of text.now }
-    ensures plain { ReadsTimestamp text.now (option_map instant result) }
-    ensures one_text { IfSome result (λ t. text.now ≡ timestamp_text (instant t)) }
-{
-    if text.len() != 20 || text[10] != b'T' || text[19] != b'Z' {
-        return None;
+impl fmt::Display for NotATimestamp {
+    fn fmt<W: fmt::Write>(&self, f: &mut fmt::Formatter<W>) -> fmt::Result {
+        f.write_str("no second of a day from 2000-01-01 to 2099-12-31")
     }
-    let Ok(date) = Date::read(&text[0..10]) else {
-        return None;
-    };
-    let second = read_clock(&text[11..19])?;
-    Some(Timestamp { date, second })
 }
 
-// The text of a day and a time.
-fn joined_text(date: Date, second: u32) -> [u8; 20]
-    requires { second < 86400 }
-    ensures { result ≡ timestamp_text (number date * day_seconds + second) }
-{
-    let day = date.text();
-    let clock = clock_text(second);
-    let mut text = [b'T'; 20];
-    text[0..10].copy_from_slice(&day);
-    text[11..19].copy_from_slice(&clock);
-    text[19] = b'Z';
-    text
-}
+impl Error for NotATimestamp {}
 
-// The same text, which is read as the instant that it was written from.
-fn stamp_text(date: Date, second: u32) -> [u8; 20]
-    requires { second < 86400 }
-    ensures text { result ≡ timestamp_text (number date * day_seconds + second) }
-    ensures reads_back { timestamp_of result ≡ Some (number date * day_seconds + second) }
-{
-    joined_text(date, second)
+impl From<NotADate> for NotATimestamp {
+    fn from(_: NotADate) -> NotATimestamp {
+        NotATimestamp
+    }
 }
 
 impl Timestamp {
     // The instant that a text names as YYYY-MM-DDThh:mm:ssZ.
+    #[tactic(auto, using(std::proofs::lemmas::Bool::Decides::nat_tests), unfolding(crate::specs::Times::timestamp_of))]
     pub fn read(text: &[u8]) -> Result<Timestamp, NotATimestamp>
         ensures value { option_map instant (result_ok result) ≡ timestamp_of text.now }
         ensures plain { ReadsTimestamp text.now (option_map instant (result_ok result)) }
         ensures one_text { IfOk result (λ t. text.now ≡ timestamp_text (instant t)) }
     {
-        match read_timestamp(text) {
-            Some(timestamp) => Ok(timestamp),
-            None => Err(NotATimestamp),
+        if text.len() != 20 || text[10] != b'T' || text[19] != b'Z' {
+            return Err(NotATimestamp);
         }
+        let date = Date::read(&text[0..10])?;
+        let time = TimeOfDay::read(&text[11..19]).ok_or(NotATimestamp)?;
+        Ok(Timestamp { date, time })
     }
 
     // The instant as YYYY-MM-DDThh:mm:ssZ.
@@ -71,6 +51,9 @@ impl Timestamp {
         ensures text { result ≡ timestamp_text (instant self) }
         ensures reads_back { timestamp_of result ≡ Some (instant self) }
     {
-        stamp_text(self.date, self.second)
+        let mut text = *b"YYYY-MM-DDThh:mm:ssZ";
+        text[0..10].copy_from_slice(&self.date.text());
+        text[11..19].copy_from_slice(&self.time.text());
+        text
     }
 }

@@ -1,15 +1,10 @@
-use Rattle.std.proofs.Common.{◌≡◌, ℕ, Bool, true, false, ◌&&◌, ◌||◌, leb, List, Option, refl, ap, ◌∙◌, arith}
+use Rattle.std.proofs.Common.{◌≡◌, ℕ, Bool, ◌&&◌, ◌||◌, leb, List, Option, ap, ◌∙◌, arith}
+use Rattle.std.proofs.Math.Bool.{and_comm}
 use Rattle.std.proofs.lemmas.Bool.Decides.{nat_tests}
 use Rattle.timestamps.specs.Checks.{apart, named_off_exchange, same_date, within_an_hour}
 use Rattle.timestamps.specs.Timestamps.{instant}
 use Rattle.timestamps.proofs.Instants.{instant_names, instant_read, one_stamp, stamp_names}
 use Rattle.timestamps.proofs.laws.timestamp_laws.Goals as goal
-
-and_comm : (a b : Bool) → (a && b) ≡ (b && a)
-and_comm true true = refl
-and_comm true false = refl
-and_comm false true = refl
-and_comm false false = refl
 
 date_exchanged : (i j : ℕ) → same_date i j ≡ same_date j i
 date_exchanged i j = grind (arith, nat_tests)
@@ -24,9 +19,9 @@ time_exchanged v w i j =
 pub returns : goal.returns
 returns c =
     record {
-      read_back = λ t. instant_read _ _ (stamp_names (instant t) (omega (arith, t.within, t.date.within)));
+      read_back = λ t. instant_read _ _ (stamp_names (instant t) (omega (arith, t.time.within, t.date.within)));
       written_back = λ text i e. one_stamp text i (instant_names text i e);
-      one_form = λ a b e. (omega (arith, a.within, b.within), omega (arith, a.within, b.within));
+      one_form = λ a b e. (omega (arith, a.time.within, b.time.within), omega (arith, a.time.within, b.time.within));
       date_exchanged = date_exchanged;
       time_exchanged = time_exchanged;
     }
