@@ -1,10 +1,10 @@
 -- A day's number and its year, month and day give each other, and so do a day's number and its text.
 use Rattle.std.proofs.Common.{◌≡◌, ℕ, ◌+◌, ◌-◌, ◌<◌, ◌≤◌, true, List, get_or, Some, None, sum, Option, IfOk, Ok, Err, Result, sym, refl, ap, ◌∙◌, inl, inr, arith}
 use Rattle.std.proofs.lemmas.List.{take_all}
-use Rattle.std.proofs.lemmas.Bool.{cases_Bool, cond-false, cond-true}
+use Rattle.std.proofs.lemmas.Bool.{cases_Bool, cond-true}
 use Rattle.std.proofs.lemmas.Bool.Decides.{nat_tests}
 use Rattle.calendar.specs.Gregorian.{century, day_at, day_number, day_of_year, days_before, existing, exists, month_at, months_of, part_of, year_at}
-use Rattle.texts.specs.ThreeNumbers.{three_of, three_text}
+use Rattle.texts.specs.ThreeNumbers.{three_of}
 use Rattle.calendar.specs.Text.{NamesDay, ReadsDate, date_of, date_text, day_of_three}
 use Rattle.std.specs.Option.{option_map}
 use Rattle.std.specs.Result.{result_ok}

@@ -2,11 +2,11 @@
 use Rattle.std.proofs.Common.{◌≡◌, ℕ, zero, suc, ◌+◌, ◌-◌, ◌*◌, ◌/◌, ◌%◌, ◌<◌, ◌≤◌, min, Bool, true, false, ltb, leb, List, [], ◌∷◌, length, get_or, take, drop, sum, sym, refl, ap, ◌∙◌, subst, inl, inr, arith, lit≤}
 use Rattle.std.proofs.lemmas.List.Sums.{prefix_len-le-length, prefix_len_passes, prefix_len_stops, sum_by-cons, sum_by_more, sum_by-take-le}
 use Rattle.std.proofs.lemmas.List.{get_or-drop, get_or-take, length-drop, length-take-le, take_all}
-use Rattle.std.proofs.lemmas.Bool.{cond-true, cond-false, leb-true, leb-false, lt-ltb, le-ltb, cases_lt}
+use Rattle.std.proofs.lemmas.Bool.{leb-true, leb-false, lt-ltb, le-ltb, cases_lt}
 use Rattle.std.proofs.lemmas.Bool.Decides.{nat_tests}
 use Rattle.std.proofs.Math.Nat.{add_comm}
 use Rattle.std.specs.List.{prefix_len}
-use Rattle.calendar.specs.Gregorian.{century, day_number, days_before, exists, leap, month_lengths, months_of, next_part, part_of}
+use Rattle.calendar.specs.Gregorian.{century, day_number, day_of_year, days_before, exists, leap, month_lengths, months_of, part_of, year_at}
 use Rattle.calendar.proofs.Spans.{equal_below, years_before}
 
 before_next : (l : ℕ) (ls : List ℕ) (i : ℕ) → days_before (l ∷ ls) (suc i) ≡ l + days_before ls i
@@ -79,19 +79,23 @@ year_next y low high =
 -- day n lies in year y, which begins on day `start`
 pub record InYear (n y start : ℕ) : Type 0 where
   pub begun : start ≤ n
-  pub parts : (y - 2000, n - start) ≡ part_of century n
+  pub year : y ≡ year_at n
+  pub days : n - start ≡ day_of_year n
   pub within : n - start < days_before (months_of y) 12
 
 pub in_year : (n y start : ℕ) → n < 36525 → y ≡ 2000 + year_index n → start ≡ days_before century (y - 2000) → InYear n y start
+unfolding year_at day_of_year
 in_year n y start h e s =
     let b = year_bounds n h in
     let i : y - 2000 ≡ year_index n = omega (arith, e) in
     let low : days_before century (y - 2000) ≤ n = rw i b.1 in
     let high : n < days_before century (y - 2000 + 1) = rw i b.2 in
-    let found = part_found century n (y - 2000) (omega (arith, i, b.0, century_length)) low high in
+    let found : (y - 2000, n - days_before century (y - 2000)) ≡ part_of century n =
+    sym (part_found century n (y - 2000) (omega (arith, i, b.0, century_length)) low high) in
     record {
       begun = omega (arith, s, low);
-      parts = rw s (sym found);
+      year = e ∙ ap (λ (k : ℕ). 2000 + k) (sym i) ∙ ap (λ (p : ℕ × ℕ). 2000 + p.0) found;
+      days = rw s (ap (λ (p : ℕ × ℕ). p.1) found);
       within = omega (arith, s, high, year_next y (omega (arith, e)) (omega (arith, i, b.0)));
     }
 
@@ -140,6 +144,7 @@ month_most y m h = omega (arith, month_short (leap y) m h)
 
 -- m months begin on day d of year y or before it, by the days before each
 pub record Begun (y d m : ℕ) (starts : List ℕ) : Type 0 where
+  pub few : m < 12
   pub begun : get_or starts m 0 ≤ d
   pub parts : (m, d - get_or starts m 0) ≡ part_of (months_of y) d
   pub short : d - get_or starts m 0 < 31
@@ -170,6 +175,7 @@ month_begun y d m starts len is within e =
     let start : get_or starts m 0 ≡ days_before (months_of y) m = is m (omega arith) in
     let found = part_found (months_of y) d m (omega (arith, most, months_length y)) low high in
     record {
+      few = omega (arith, most);
       begun = omega (arith, start, low);
       parts = rw start (sym found);
       short = omega (arith, start, month_next y m (omega arith), month_most y m (omega arith));

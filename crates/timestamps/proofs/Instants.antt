@@ -1,11 +1,11 @@
 -- Times and timestamps, read and written.
 use Rattle.std.proofs.Common.{◌≡◌, ℕ, ◌+◌, ◌*◌, ◌/◌, ◌%◌, ◌<◌, ◌≤◌, true, eqb, List, [], ◌∷◌, ◌++◌, length, get_or, take, drop, Some, None, Option, sym, refl, ap, ◌∙◌, inl, inr, arith}
 use Rattle.std.proofs.lemmas.List.{drop_all, drop-drop, drop_more, take-append-drop}
-use Rattle.std.proofs.lemmas.Bool.{and_parts, cases_Bool, cond-false, cond-true, eqb-true}
+use Rattle.std.proofs.lemmas.Bool.{and_parts, cases_Bool, cond-true, eqb-true}
 use Rattle.std.proofs.lemmas.Bool.Decides.{nat_tests}
 use Rattle.texts.specs.ThreeNumbers.{three_of, three_text}
 use Rattle.calendar.specs.Text.{NamesDay, date_of, date_text}
-use Rattle.timestamps.specs.Times.{NamesInstant, ReadsTimestamp, clock_of, clock_text, has_marks, instant_at, is_time, second_of_three, timestamp_of, timestamp_text}
+use Rattle.timestamps.specs.Times.{NamesInstant, ReadsTimestamp, clock_of, has_marks, instant_at, is_time, second_of_three, timestamp_of, timestamp_text}
 use Rattle.calendar.proofs.Civil.{date_names, date_read, one_text, text_names}
 use Rattle.texts.proofs.ThreeNumbers.{three_back, three_text_lem}
 
@@ -31,7 +31,7 @@ from_three text None n e h = absurd (cc)
 from_three text (Some p) n e h =
     elim (cases_Bool (is_time p.0 p.1 p.2)) [
       | inl t ↦
-          let s : Some (p.0 * 3600 + p.1 * 60 + p.2) ≡ Some n = sym (cond-true (is_time p.0 p.1 p.2) (Some (p.0 * 3600 + p.1 * 60 + p.2)) None t) ∙ h in
+          let s : Some (p.0 * 3600 + p.1 * 60 + p.2) ≡ Some n = rw t at h in
           record {
             hour = p.0;
             minute = p.1;
@@ -43,7 +43,7 @@ from_three text (Some p) n e h =
             is = cc;
           }
       | inr f ↦
-          let s : None ≡ Some n = sym (cond-false (is_time p.0 p.1 p.2) (Some (p.0 * 3600 + p.1 * 60 + p.2)) None f) ∙ h in
+          let s : None ≡ Some n = rw f at h in
           absurd (cc)
     ]
 
@@ -104,8 +104,8 @@ pub instant_names : (text : List ℕ) (i : ℕ) → timestamp_of text ≡ Some i
 unfolding timestamp_of
 instant_names text i e =
     elim (cases_Bool (has_marks text)) [
-      | inl t ↦ from_parts text (date_of (take 10 text)) (clock_of (take 8 (drop 11 text))) i t refl refl (sym (cond-true (has_marks text) _ None t) ∙ e)
-      | inr f ↦ (let s : None ≡ Some i = sym (cond-false (has_marks text) _ None f) ∙ e in absurd (cc))
+      | inl t ↦ from_parts text (date_of (take 10 text)) (clock_of (take 8 (drop 11 text))) i t refl refl (rw t at e)
+      | inr f ↦ (let s : None ≡ Some i = rw f at e in absurd (cc))
     ]
 
 -- each instant has one text

@@ -14,6 +14,7 @@ use calendar::date::Date;
 fn first_open(date: Date) -> Option<BusinessDay>
     ensures { option_map day_no result ≡ first_from (day_count - number date) (number date) }
 {
+    // no chain: the library does not say that its `successors` end, which `find_map` requires
     let mut day = date;
     loop {
         if let Some(open) = BusinessDay::new(day) {

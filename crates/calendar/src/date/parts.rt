@@ -1,7 +1,7 @@
 // A date by its year, month and day, and its weekday.
-ghost use Rattle.std.specs.Prelude.{◌≡◌, ◌-◌, ◌<◌};
+ghost use Rattle.std.specs.Prelude.{◌≡◌, ◌<◌};
 ghost use Rattle.std.specs.Option.{option_map};
-ghost use Rattle.calendar.specs.Gregorian.{century, day_at, days_before, existing, month_at, months_of, part_of, weekday_at, year_at};
+ghost use Rattle.calendar.specs.Gregorian.{day_at, day_of_year, days_before, existing, month_at, months_of, weekday_at, year_at};
 ghost use Rattle.calendar.specs.Dates.{number, weekday_number, year_number};
 
 use super::{Date, Weekday};
@@ -9,7 +9,8 @@ use crate::year::Year;
 
 // The year of a day, and the days of that year before it.
 fn split_year(date: Date) -> (Year, u16)
-    ensures parts { (result.0.number - 2000, result.1) ≡ part_of century (number date) }
+    ensures year { result.0.number ≡ year_at (number date) }
+    ensures days { result.1 ≡ day_of_year (number date) }
     ensures within { result.1 < days_before (months_of result.0.number) 12 }
 {
     // four years have 1,461 days, and the first of them is the leap year
@@ -28,19 +29,15 @@ pub(super) struct CivilDay {
     pub(super) day: u8,
 }
 
-#[tactic(auto, unfolding(crate::specs::Gregorian::year_at, crate::specs::Gregorian::day_of_year, crate::specs::Gregorian::month_at, crate::specs::Gregorian::day_at))]
+#[tactic(auto, unfolding(crate::specs::Gregorian::month_at, crate::specs::Gregorian::day_at))]
 pub(super) fn civil(date: Date) -> CivilDay
     ensures year { result.year.number ≡ year_at (number date) }
     ensures month { result.month ≡ month_at (number date) }
     ensures day { result.day ≡ day_at (number date) }
 {
-    let (year, day_of_year) = split_year(date);
-    let (months, days) = year.split_month(day_of_year);
-    CivilDay {
-        year,
-        month: months + 1,
-        day: days + 1,
-    }
+    let (year, days) = split_year(date);
+    let (month, day) = year.month_and_day(days);
+    CivilDay { year, month, day }
 }
 
 impl Date {

@@ -1,5 +1,5 @@
 // The days of a year, counted by months.
-ghost use Rattle.std.specs.Prelude.{◌≡◌, ℕ, ◌-◌, ◌<◌, ◌≤◌, nat_le, slice_index};
+ghost use Rattle.std.specs.Prelude.{◌≡◌, ℕ, ◌+◌, ◌-◌, ◌<◌, ◌≤◌, nat_le, slice_index};
 ghost use Rattle.std.specs.List.{prefix_len};
 ghost use Rattle.calendar.specs.Gregorian.{century, days_before, leap, months_of, part_of};
 
@@ -10,11 +10,11 @@ const COMMON: [u16; 13] = [0, 31, 59, 90, 120, 151, 181, 212, 243, 273, 304, 334
 
 const LEAP: [u16; 13] = [0, 31, 60, 91, 121, 152, 182, 213, 244, 274, 305, 335, 366];
 
-// How many of these months begin on the day or before it.
-fn begun(starts: &[u16], day: u16) -> usize
-    ensures { result ≡ prefix_len (λ start. nat_le start day) starts.now }
+// How many of these months begin on the day that so many days precede, or before it.
+fn begun(starts: &[u16], days: u16) -> usize
+    ensures { result ≡ prefix_len (λ start. nat_le start days) starts.now }
 {
-    starts.iter().take_while(|start| **start <= day).count()
+    starts.iter().take_while(|start| **start <= days).count()
 }
 
 impl Year {
@@ -60,15 +60,14 @@ impl Year {
         self.before_month(months + 1) - self.before_month(months)
     }
 
-    // The months before this day of the year, and the days of its month before it.
-    pub(crate) fn split_month(self, day: u16) -> (u8, u8)
-        requires { day < days_before (months_of self.number) 12 }
-        ensures parts { result ≡ part_of (months_of self.number) day }
-        ensures months { result.0 < 12 }
-        ensures days { result.1 < 31 }
+    // The month of the day that so many days of the year precede, and its day of the month, both from 1.
+    pub(crate) fn month_and_day(self, days: u16) -> (u8, u8)
+        requires { days < days_before (months_of self.number) 12 }
+        ensures month { result.0 ≡ 1 + (part_of (months_of self.number) days).0 }
+        ensures day { result.1 ≡ 1 + (part_of (months_of self.number) days).1 }
     {
         let starts = self.month_starts();
-        let months = begun(&starts[1..12], day);
-        (months as u8, (day - starts[months]) as u8)
+        let months = begun(&starts[1..12], days);
+        (1 + months as u8, 1 + (days - starts[months]) as u8)
     }
 }
