@@ -1,6 +1,9 @@
 -- Escapes read back.
 use Rattle.std.proofs.Common.{◌≡◌, ℕ, ◌+◌, ◌/◌, ◌%◌, ◌<◌, Bool, true, false, cond, not, eqb, List, [], ◌∷◌, ◌++◌, length, get_or, take, Some, None, Option, sym, refl, ap, ◌∙◌, append_assoc, append-nil, arith}
+use Rattle.std.specs.Fmt.{digits, format_spec, padded_integral}
 use Rattle.std.specs.Int.{is_in_range}
+use Rattle.std.specs.Option.{option_map}
+use Rattle.std.proofs.lemmas.Fmt.{hex_byte}
 use Rattle.std.specs.List.{AllByRecursion}
 use Rattle.std.proofs.ByRecursion.{All-append}
 use Rattle.std.proofs.lemmas.Bool.{and_parts}
@@ -48,6 +51,10 @@ escaped-append (x ∷ xs) b = ap (λ (t : List ℕ). escaped_byte x ++ t) (escap
 -- escapes of one byte more
 pub escaped_more : (xs : List ℕ) (i d : ℕ) → i < length xs → escaped (take (i + 1) xs) ≡ escaped (take i xs) ++ escaped_byte (get_or xs i d)
 escaped_more xs i d h = ap escaped (take_more xs i d h) ∙ escaped-append (take i xs) (get_or xs i d)
+
+-- two digits in capitals, as they are written
+pub capitals_written : (o : Option (List ℕ)) (b : ℕ) → o ≡ Some (digits 16 true b) → b < 256 → option_map (padded_integral (format_spec 32 0 4 2 18446744073709551615) false []) o ≡ Some (hex_digit (b / 16) ∷ hex_digit (b % 16) ∷ [])
+capitals_written o b e h = ap (option_map (padded_integral (format_spec 32 0 4 2 18446744073709551615) false [])) e ∙ ap Some (hex_byte true b h)
 
 hex_printable : (d : ℕ) → d < 16 → is_in_range 33 126 (hex_digit d) ≡ true
 hex_printable d h = grind (arith, nat_tests)

@@ -78,6 +78,7 @@ fn is_plain(byte: u8) -> bool
     byte.is_ascii_graphic() && byte != b'%'
 }
 
+#[tactic(auto, using(crate::proofs::Inverse::capitals_written))]
 fn push_escaped(out: &mut String, byte: u8) -> Result<(), AllocError>
     ensures { OnOk result (string_bytes out.new ≡ string_bytes out.old ++ escaped_byte byte) }
 {
