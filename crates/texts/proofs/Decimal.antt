@@ -1,9 +1,8 @@
 -- Runs of digits in text.
-use Rattle.std.proofs.Common.{◌&&◌, ◌≡◌, ℕ, zero, suc, ◌+◌, ◌-◌, ◌^◌, ◌<◌, ◌≤◌, Bool, true, false, cond, List, [], ◌∷◌, length, get_or, take, refl, ap, ◌∙◌, arith}
+use Rattle.std.proofs.Common.{◌≡◌, ℕ, zero, suc, ◌+◌, ◌-◌, ◌^◌, ◌<◌, ◌≤◌, Bool, true, false, cond, List, [], ◌∷◌, length, get_or, take, refl, ap, ◌∙◌, arith}
 use Rattle.std.specs.Str.Parse.{digits_value, AllDigits as Digits}
 use Rattle.std.specs.Char.{is_ascii_digit, digit_value}
-use Rattle.std.specs.List.{list_all, prefix_len, AllByRecursion}
-use Rattle.std.specs.Str.{all_ascii_digits}
+use Rattle.std.specs.List.{prefix_len, AllByRecursion}
 use Rattle.std.proofs.lemmas.Int.Digits.{digits_value-lt}
 use Rattle.std.proofs.ByRecursion.{All-from_get_or, All-weaker}
 use Rattle.std.proofs.lemmas.List.{get_or-take, length-take-le}
@@ -52,8 +51,3 @@ value_below text h = digits_value-lt 10 text (digits_from text h)
 -- digits are ASCII
 pub digits_ascii : (ds : List ℕ) → AllDigits ds → AllByRecursion (λ b. b < 128) ds
 digits_ascii ds h = All-weaker (λ b. is_ascii_digit b ≡ true) (λ b. b < 128) (λ b d. omega (arith, digit_range b d)) ds h
-
--- the test of a chain is the test of a text
-pub digits_tested : (ds : List ℕ) → list_all is_ascii_digit ds ≡ all_ascii_digits ds
-digits_tested [] = refl
-digits_tested (x ∷ xs) = ap (λ (b : Bool). is_ascii_digit x && b) (digits_tested xs)

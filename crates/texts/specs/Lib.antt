@@ -1,3 +1,2 @@
 pub mod Numerals
-pub mod Placed
 pub mod ThreeNumbers
