@@ -1,5 +1,5 @@
 // Reads a date from text, and writes it.
-ghost use Rattle.std.specs.Prelude.{◌≡◌, IfOk, Some, IsAscii};
+ghost use Rattle.std.specs.Prelude.{◌≡◌, IfOk, Some, IsAscii, codes};
 ghost use Rattle.std.specs.Option.{option_map};
 ghost use Rattle.std.specs.Result.{result_ok};
 ghost use Rattle.calendar.specs.Dates.{number};
@@ -17,6 +17,8 @@ use texts::numbers::read_three;
 pub struct NotADate;
 
 impl fmt::Display for NotADate {
+    ghost output = { λ _. Some (codes "no day from 2000-01-01 to 2099-12-31") };
+
     fn fmt<W: fmt::Write>(&self, f: &mut fmt::Formatter<W>) -> fmt::Result {
         f.write_str("no day from 2000-01-01 to 2099-12-31")
     }

@@ -1,5 +1,5 @@
 // Reads a timestamp from text, and writes it.
-ghost use Rattle.std.specs.Prelude.{◌≡◌, IfOk, Some};
+ghost use Rattle.std.specs.Prelude.{◌≡◌, IfOk, Some, codes};
 ghost use Rattle.std.specs.Option.{option_map};
 ghost use Rattle.std.specs.Result.{result_ok};
 ghost use Rattle.timestamps.specs.Times.{ReadsTimestamp, timestamp_of, timestamp_text};
@@ -17,6 +17,8 @@ use std::fmt;
 pub struct NotATimestamp;
 
 impl fmt::Display for NotATimestamp {
+    ghost output = { λ _. Some (codes "no second of a day from 2000-01-01 to 2099-12-31") };
+
     fn fmt<W: fmt::Write>(&self, f: &mut fmt::Formatter<W>) -> fmt::Result {
         f.write_str("no second of a day from 2000-01-01 to 2099-12-31")
     }
