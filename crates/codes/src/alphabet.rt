@@ -10,6 +10,7 @@ pub trait Alphabet {
     fn has(byte: u8) -> bool
         ensures { result ≡ letters.has byte };
 
+    // No default: a default body is proved for every alphabet, and not in all of them are the ends all the bytes.
     fn may_end(byte: u8) -> bool
         ensures { result ≡ letters.ends byte };
 }

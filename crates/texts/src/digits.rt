@@ -91,6 +91,7 @@ pub fn write_digits(out: &mut [u8], n: u128)
     ensures value { digits_value 10 out.new ≡ n % 10 ^ length out.old }
 {
     let mut left = n;
+    // by place: of a slice behind a reversed `iter_mut` a proof knows no element
     for at in (0..out.len()).rev() {
         out[at] = b'0' + (left % 10) as u8;
         left /= 10;
