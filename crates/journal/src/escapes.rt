@@ -6,7 +6,7 @@ ghost use Rattle.journal.specs.declared.escapes.WordError.TheVariants.{OutOfMemo
 
 use std::alloc::{AllocError, AllocFailed, Global};
 
-// Why a word was not decoded.
+// Why a word was not decoded. It prints nothing by itself: a caller tells it among faults of its own.
 #[derive(Debug, Drop)]
 pub enum WordError {
     // the word, as it may be printed

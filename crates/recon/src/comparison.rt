@@ -2,7 +2,8 @@
 use amounts::amount::Amount;
 use refusals::refusal::Refusal;
 
-// The field whose check compares two amounts.
+// The field whose check compares two amounts. An enum and no closure: the verb that is read picks the comparison, the
+// tag and the printed word together.
 #[derive(Clone, Copy, Debug)]
 pub enum AmountCheck {
     // a price, under the one-percent check

@@ -14,7 +14,7 @@ use std::alloc::{AllocError, Global};
 pub struct Run {
     // lines so far, in all files together
     lines: u64,
-    // whether every line so far was a call or one to pass over, and every file could be read
+    // whether every line so far was a call or one to pass over, and every file could be read; the count stands either way
     clean: bool,
 }
 
