@@ -64,8 +64,8 @@ laws = record {
   beginning = before_more;
 }
 
-pub forms : {A : _} {least most : _} {m : _} → CodeForms A least most m
-forms {A} {least} {most} {m} = record {
-  one_form = λ a b e. one_place most a.bytes b.bytes a.filled b.filled e;
-  reads_back = λ a. reads m.letters least most (text_of a) a.rule;
+pub forms : {A : _} {m : _} → CodeForms A m
+forms {A} {m} = record {
+  one_form = λ {least} {most} a b e. one_place most a.bytes b.bytes a.filled b.filled e;
+  reads_back = λ {least} {most} a. reads m.letters least most (text_of a) a.rule;
 }

@@ -3,7 +3,7 @@ ghost use Rattle.std.specs.Prelude.{◌≡◌};
 ghost use Rattle.codes.specs.Alphabets.{Letters};
 ghost use Rattle.codes.specs.Values.{capitals, capitals_and_digits, printable, trade_id_bytes};
 
-// The bytes that a text may have, and those among them that may stand first and last.
+// The bytes that a text may have, and those that may stand first and last.
 pub trait Alphabet {
     ghost letters: { Letters };
 
@@ -37,7 +37,7 @@ impl Alphabet for CapitalsAndDigits {
     ghost letters = { capitals_and_digits };
 
     fn has(byte: u8) -> bool {
-        byte.is_ascii_uppercase() || byte.is_ascii_digit()
+        matches!(byte, b'0'..=b'9' | b'A'..=b'Z')
     }
 
     fn may_end(byte: u8) -> bool {

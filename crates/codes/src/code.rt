@@ -30,6 +30,7 @@ impl<A: Alphabet, const LEAST: usize, const MOST: usize> Clone for Code<A, LEAST
     ghost is_infallible = { λ _. ⊤ };
 
     fn clone(&self) -> Result<Self, AllocError> {
+        // built again: a copy from behind a reference is not followed by the prover under a type parameter
         let bytes = self.bytes;
         Ok(Code {
             bytes,

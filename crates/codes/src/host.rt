@@ -22,7 +22,7 @@ fn read_field<A: Alphabet, const LEAST: usize, const MOST: usize>(
     Code::read(text).map_err(|_| Refusal::BadField(tag))
 }
 
-// The LEI of an entry of the register. Each kind of entry has a function, whose promise names its field.
+// The LEI of an entry of the register. A line for each kind of entry, since each promise names its field.
 pub fn register_lei(text: &[u8]) -> Result<Lei, Refusal>
     ensures { result_map_both text_of parts_of result ≡ field_of capitals_and_digits 20 20 ReportingCounterparty text.now }
 {

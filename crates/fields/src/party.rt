@@ -17,7 +17,7 @@ pub enum OtherParty {
 }
 
 impl OtherParty {
-    // The party of this kind that a text names.
+    // The party of this kind that a text names. By a match: the kind is read from the report, so it is a value and no type.
     pub fn read(kind: PartyKind, text: &[u8]) -> Result<OtherParty, NotACode>
         ensures { option_map party_parts (result_ok result) ≡ party_in kind text.now }
     {

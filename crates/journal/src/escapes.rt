@@ -62,6 +62,7 @@ pub fn decode(alloc: Global, word: &[u8]) -> Result<Vec<u8>, WordError>
 {
     let mut bytes = Vec::new(alloc);
     let mut rest = word;
+    // by what is left and no iterator of bytes: a bad escape ends it, and would have to be an item
     while !rest.is_empty() {
         let Some((byte, after)) = first_byte(rest) else {
             return Err(WordError::BadEscape(escape(alloc, word)?));

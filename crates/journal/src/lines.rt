@@ -3,11 +3,11 @@ ghost use Rattle.std.specs.Prelude.{◌≡◌, ◌<◌, ◌≤◌, length};
 ghost use Rattle.std.specs.Iterator.{at_most};
 ghost use Rattle.std.specs.List.{prefix_len};
 ghost use Rattle.std.specs.Option.{option_copied};
-ghost use Rattle.std.specs.Str.{bytes_eq};
 ghost use Rattle.journal.specs.Bytes.{blank, in_line, in_word};
 ghost use Rattle.journal.specs.Lines.{after_line, after_word, first_line, first_word, YieldsLine};
 
-// Three chains and no function over the test: its clause on the closure would be longer than a chain.
+// Three chains and no function over the test: its clause on the closure is longer than a chain. `within` stands at
+// each for the split that follows.
 fn line_len(text: &[u8]) -> usize
     ensures value { result ≡ prefix_len in_line text.now }
     ensures within { result ≤ length text.now }
@@ -78,11 +78,4 @@ pub fn first_word(line: &[u8]) -> (&[u8], &[u8])
 {
     let (_, rest) = line.split_at(blanks_len(line));
     rest.split_at(word_len(rest))
-}
-
-// Whether a word is this text.
-pub fn is_word(word: &[u8], text: &str) -> bool
-    ensures { result ≡ bytes_eq word.now text.now }
-{
-    word == text.as_bytes()
 }

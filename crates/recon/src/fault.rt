@@ -27,6 +27,7 @@ impl From<AllocError> for Fault {
     }
 }
 
+// Case by case, so that want of memory is one case of a fault.
 impl From<WordError> for Fault {
     ghost from_gives = { λ e f. f ≡ fault_of e };
 

@@ -14,7 +14,8 @@ use std::alloc::{AllocError, Global};
 pub struct Run {
     // lines so far, in all files together
     lines: u64,
-    // whether every line so far was a call or one to pass over, and every file could be read; the count stands either way
+    // whether every line so far was a call or one to pass over, and every file could be read: a flag and no
+    // `Result`, since lines are counted and run after a fault too
     clean: bool,
 }
 

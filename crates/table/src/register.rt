@@ -11,7 +11,8 @@ use refusals::refusal::Refusal;
 // The most entries that a register may have.
 pub const MOST_ENTRIES: usize = 65_536;
 
-// Refuses a list that is no register: too many entries, or keys that do not ascend strictly.
+// Refuses a list that is no register: too many entries, or keys that do not ascend strictly. The test alone, for a host
+// that makes no table.
 pub fn check_register<R: Keyed>(entries: &[R]) -> Result<(), Refusal>
     ensures { MatchResult result (λ _. IsRegister R.Key.cmp R.id entries.now) (λ e. (e ≡ RegisterDisordered) × (IsRegister R.Key.cmp R.id entries.now → ⊥)) }
 {

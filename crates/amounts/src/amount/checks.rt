@@ -22,7 +22,7 @@ impl Amount {
         if self.negative { -whole } else { whole }
     }
 
-    // Whether both are the same value, which has one representation.
+    // Whether both are the same value: the derived equality, told of values, each of which has one representation.
     #[tactic(auto, using(crate::proofs::Laws::same_fields))]
     pub fn same_value(&self, other: &Amount) -> bool
         ensures { result ≡ same (worth self.now) (worth other.now) }

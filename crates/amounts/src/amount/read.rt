@@ -133,7 +133,8 @@ pub(super) fn read_decimal<const MOST: usize>(text: &[u8]) -> Result<Amount, Not
 }
 
 impl Amount {
-    // The amount that a text spells with at most twenty digits. A `TryFrom` would be this line again.
+    // The amount that a text spells with at most twenty digits. `read` and no `TryFrom`: the two clauses would be one
+    // ghost member.
     pub fn read(text: &[u8]) -> Result<Amount, NotAnAmount>
         ensures value { option_map worth (result_ok result) ≡ amount_of 20 text.now }
         ensures plain { Reads 20 text.now (option_map worth (result_ok result)) }

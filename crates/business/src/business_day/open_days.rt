@@ -62,7 +62,8 @@ impl BusinessDay {
         Some(BusinessDay { date })
     }
 
-    // The day on which a book opens, as YYYY-MM-DD. A text that names no day, or a closed one, is refused.
+    // The day on which a book opens, as YYYY-MM-DD. A text that names no day, or a closed one, is refused. `read` and no
+    // `TryFrom`, as at every value.
     pub fn read(text: &[u8]) -> Result<BusinessDay, Refusal>
         ensures value { option_map day_no (result_ok result) ≡ opening_of text.now }
         ensures refusal { IfErr result (λ e. parts_of e ≡ not_a_business_day) }

@@ -26,7 +26,7 @@ impl Year {
 }
 
 impl Date {
-    // Easter Sunday, in a year from 2000 to 2099.
+    // Easter Sunday of the year with this number, from 2000 to 2099.
     pub fn easter(year: u16) -> Option<Date>
         ensures { option_map number result ≡ easter_in year }
     {

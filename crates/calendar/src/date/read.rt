@@ -27,7 +27,7 @@ impl fmt::Display for NotADate {
 impl Error for NotADate {}
 
 impl Date {
-    // The day that a text names as YYYY-MM-DD.
+    // The day that a text names as YYYY-MM-DD. `read` and no `TryFrom`, as at every value.
     pub fn read(text: &[u8]) -> Result<Date, NotADate>
         ensures value { option_map number (result_ok result) ≡ date_of text.now }
         ensures plain { ReadsDate text.now (option_map number (result_ok result)) }

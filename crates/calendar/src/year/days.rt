@@ -5,7 +5,8 @@ ghost use Rattle.calendar.specs.Gregorian.{century, days_before, leap, months_of
 
 use super::Year;
 
-// The days before each month, and all days: of a common year, and of a leap year.
+// The days before each month, and all days: of a common year, and of a leap year. Two tables, since the months that
+// have begun are counted over a slice of the year's own.
 const COMMON: [u16; 13] = [0, 31, 59, 90, 120, 151, 181, 212, 243, 273, 304, 334, 365];
 
 const LEAP: [u16; 13] = [0, 31, 60, 91, 121, 152, 182, 213, 244, 274, 305, 335, 366];

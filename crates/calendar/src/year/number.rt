@@ -17,7 +17,7 @@ impl Year {
         Some(Year { number })
     }
 
-    // Its number, from 2000 to 2099.
+    // Its number, from 2000 to 2099. A method and no `From`, since it gives the range too.
     pub fn number(self) -> u16
         ensures value { result ≡ year_number self }
         ensures low { 2000 ≤ result }

@@ -53,7 +53,7 @@ impl<A: Alphabet, const LEAST: usize, const MOST: usize> Code<A, LEAST, MOST> {
         LEAST <= n && n <= MOST && is_spelled::<A>(text) && ends_well::<A>(text)
     }
 
-    // The code of this text, by the name that reading has at every value of the book.
+    // The code of this text. `read` and no `TryFrom`, whose ghost member would be this clause again.
     #[tactic(auto, using(crate::proofs::Filled::placed_code, crate::proofs::Filled::placed_rule, crate::proofs::Filled::placed_filled))]
     pub fn read(text: &[u8]) -> Result<Self, NotACode>
         ensures { option_map text_of (result_ok result) ≡ code_of A.letters LEAST MOST text.now }

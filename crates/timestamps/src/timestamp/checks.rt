@@ -26,7 +26,7 @@ impl Timestamp {
         self == other
     }
 
-    // Tolerance check 4: whether both are on the same date.
+    // Tolerance check 4: whether both are on the same date, the derived equality told of instants.
     pub fn same_date(self, other: Timestamp) -> bool
         ensures { result ≡ same_date (instant self) (instant other) }
     {

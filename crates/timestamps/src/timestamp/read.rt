@@ -8,7 +8,6 @@ ghost use Rattle.timestamps.specs.Timestamps.{instant};
 use super::Timestamp;
 use super::clock::TimeOfDay;
 use calendar::date::Date;
-use calendar::date::read::NotADate;
 use std::error::Error;
 use std::fmt;
 
@@ -26,24 +25,19 @@ impl fmt::Display for NotATimestamp {
 
 impl Error for NotATimestamp {}
 
-impl From<NotADate> for NotATimestamp {
-    fn from(_: NotADate) -> NotATimestamp {
-        NotATimestamp
-    }
-}
-
 impl Timestamp {
-    // The instant that a text names as YYYY-MM-DDThh:mm:ssZ.
+    // The instant that a text names as YYYY-MM-DDThh:mm:ssZ. `read` and no `TryFrom`, as at every value.
     #[tactic(auto, using(std::proofs::lemmas::Bool::Decides::nat_tests), unfolding(crate::specs::Times::timestamp_of))]
     pub fn read(text: &[u8]) -> Result<Timestamp, NotATimestamp>
         ensures value { option_map instant (result_ok result) ≡ timestamp_of text.now }
         ensures plain { ReadsTimestamp text.now (option_map instant (result_ok result)) }
         ensures one_text { IfOk result (λ t. text.now ≡ timestamp_text (instant t)) }
     {
+        // by place: a slice pattern has one `..`, and two parts of the text have a fixed length
         if text.len() != 20 || text[10] != b'T' || text[19] != b'Z' {
             return Err(NotATimestamp);
         }
-        let date = Date::read(&text[0..10])?;
+        let date = Date::read(&text[0..10]).map_err(|_| NotATimestamp)?;
         let time = TimeOfDay::read(&text[11..19]).ok_or(NotATimestamp)?;
         Ok(Timestamp { date, time })
     }

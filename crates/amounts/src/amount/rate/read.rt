@@ -11,7 +11,7 @@ use crate::amount::Amount;
 use crate::amount::read::{NotAnAmount, read_decimal};
 
 impl ExchangeRate {
-    // The rate that a text spells with at most ten digits.
+    // The rate that a text spells with at most ten digits. `read` and no `TryFrom`, as at every value.
     pub fn read(text: &[u8]) -> Result<ExchangeRate, NotAnAmount>
         ensures value { option_map rate_worth (result_ok result) ≡ amount_of 10 text.now }
         ensures plain { Reads 10 text.now (option_map rate_worth (result_ok result)) }
@@ -20,7 +20,7 @@ impl ExchangeRate {
         Ok(ExchangeRate { amount })
     }
 
-    // The rate as an amount, to be compared and written. A `From` would be this line again.
+    // The rate as an amount, to be compared and written. A method and no `From`: callers name what they take.
     pub fn amount(&self) -> Amount
         ensures { result ≡ self.now.amount }
     {
