@@ -4,7 +4,7 @@ use Rattle.std.specs.Option.{option_map}
 use Rattle.business.specs.BusinessDays.{day_no}
 use Rattle.business.specs.TargetDays.{closed, next_business, second_business}
 use Rattle.calendar.specs.Dates.{number}
-use Rattle.calendar.specs.Text.{date_of, date_text}
+use Rattle.calendar.specs.Text.{date_text}
 use Rattle.refusals.specs.declared.refusal.Refusal.{Refusal}
 use Rattle.refusals.specs.Words.{RefusalParts, parts_of, refusal_text}
 use Rattle.almanac.specs.declared.day_facts.DayFacts.{DayFacts}
@@ -29,8 +29,19 @@ abbrev pub facts_text : Option ℕ → List ℕ
 facts_text None = refusal_text bad_date
 facts_text (Some n) = known_text n (closed n) (next_business n) (second_business n)
 
-abbrev pub day_text : List ℕ → List ℕ
-day_text word = codes "day " ++ facts_text (date_of word)
+-- the facts of day n, as numbers of days
+pub record Facts : Type 0 where
+  pub day : ℕ
+  pub shut : Bool
+  pub next : Option ℕ
+  pub second : Option ℕ
+
+abbrev pub facts_parts : DayFacts → Facts
+facts_parts f = record { day = number f.date; shut = f.closed; next = option_map day_no f.next; second = option_map day_no f.second }
+
+abbrev pub facts_of : Option ℕ → Result Facts RefusalParts
+facts_of None = Err bad_date
+facts_of (Some n) = Ok (record { day = n; shut = closed n; next = next_business n; second = second_business n })
 
 -- what each answer tells
 abbrev pub told_facts : DayFacts → List ℕ

@@ -1,9 +1,11 @@
 // Looks a day up as a journal spells it.
 ghost use Rattle.std.specs.Prelude.{◌≡◌, Some};
 ghost use Rattle.std.specs.Option.{option_map};
+ghost use Rattle.std.specs.Result.{result_map_both};
+ghost use Rattle.refusals.specs.Words.{parts_of};
 ghost use Rattle.business.specs.BusinessDays.{day_no};
 ghost use Rattle.calendar.specs.Text.{date_of};
-ghost use Rattle.almanac.specs.Days.{day_or_never, facts_text, shown_facts, told_facts};
+ghost use Rattle.almanac.specs.Days.{day_or_never, facts_of, facts_parts, facts_text, shown_facts, told_facts};
 
 use crate::day_facts::DayFacts;
 use business::business_day::BusinessDay;
@@ -15,7 +17,8 @@ use std::fmt;
 
 // What the calendar tells of the day that a text names. A text that names none is a bad field.
 pub fn look_up(text: &[u8]) -> Result<DayFacts, Refusal>
-    ensures { shown_facts result ≡ facts_text (date_of text.now) }
+    ensures value { result_map_both facts_parts parts_of result ≡ facts_of (date_of text.now) }
+    ensures shown { shown_facts result ≡ facts_text (date_of text.now) }
 {
     let date = Date::read(text).map_err(|_| Refusal::BadField(Tag::EligibleDate))?;
     Ok(DayFacts {

@@ -45,8 +45,8 @@ later None day = None
 later (Some a) None = None
 later (Some a) (Some b) = Some (max a b)
 
--- the due day of a report of day T that is entered today: the later of the second business day after T and the
--- first after today
+-- the due day of a report of day T that is entered today: the second business day after T, or the next one from today where that
+-- comes last
 abbrev pub due_day : ℕ → ℕ → Option ℕ
 due_day t today = later (second_business t) (next_business today)
 

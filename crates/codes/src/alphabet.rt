@@ -45,18 +45,40 @@ impl Alphabet for CapitalsAndDigits {
     }
 }
 
-// The bytes that print, from the blank to '~'.
-pub struct Printable;
+// Whether a byte prints: those from the blank to '~' do.
+fn prints(byte: u8) -> bool
+    ensures { result ≡ printable.has byte }
+{
+    matches!(byte, b' '..=b'~')
+}
 
-impl Alphabet for Printable {
+// What names a product: the bytes that print.
+pub struct ProductBytes;
+
+impl Alphabet for ProductBytes {
     ghost letters = { printable };
 
     fn has(byte: u8) -> bool {
-        matches!(byte, b' '..=b'~')
+        prints(byte)
     }
 
     fn may_end(byte: u8) -> bool {
-        Self::has(byte)
+        prints(byte)
+    }
+}
+
+// What names an underlying: the same bytes, as a type of its own, so that neither text is taken for the other.
+pub struct UnderlyingBytes;
+
+impl Alphabet for UnderlyingBytes {
+    ghost letters = { printable };
+
+    fn has(byte: u8) -> bool {
+        prints(byte)
+    }
+
+    fn may_end(byte: u8) -> bool {
+        prints(byte)
     }
 }
 

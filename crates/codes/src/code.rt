@@ -9,7 +9,9 @@ pub mod order;
 pub mod read;
 pub mod venue;
 
-use crate::alphabet::{Alphabet, Capitals, CapitalsAndDigits, Printable, TradeIdBytes};
+use crate::alphabet::{
+    Alphabet, Capitals, CapitalsAndDigits, ProductBytes, TradeIdBytes, UnderlyingBytes,
+};
 use std::alloc::AllocError;
 use std::marker::PhantomData;
 
@@ -52,6 +54,6 @@ pub type Currency = Code<Capitals, 3, 3>;
 // A trading venue, by ISO 10383.
 pub type Venue = Code<CapitalsAndDigits, 4, 4>;
 // What names the product.
-pub type ProductId = Code<Printable, 1, 64>;
-// What names the product's underlying. It keeps the product's rule, so the two are one type.
-pub type UnderlyingId = Code<Printable, 1, 64>;
+pub type ProductId = Code<ProductBytes, 1, 64>;
+// What names the product's underlying, by the product's rule.
+pub type UnderlyingId = Code<UnderlyingBytes, 1, 64>;

@@ -10,7 +10,7 @@ use codes::code::read::NotACode;
 use codes::code::{ClientCode, Lei};
 
 // A counterparty, by its LEI or by a code for a client without one.
-#[derive(Clone, Copy)]
+#[derive(Clone, Copy, PartialEq, Eq)]
 pub enum OtherParty {
     Lei(Lei),
     Client(ClientCode),

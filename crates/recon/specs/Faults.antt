@@ -2,7 +2,7 @@
 use Rattle.std.specs.Prelude.{ℕ, List, ◌++◌, codes, decimal, string_bytes}
 use Rattle.journal.specs.declared.escapes.WordError.{WordError}
 use Rattle.journal.specs.declared.escapes.WordError.TheVariants.{BadEscape as BadWord, OutOfMemory as WordOutOfMemory}
-use Rattle.recon.specs.Outcomes.{verb_text}
+use Rattle.recon.specs.Verbs.{taken_text, verb_text}
 use Rattle.recon.specs.declared.fault.Fault.{Fault}
 use Rattle.recon.specs.declared.fault.Fault.TheVariants.{NoVerb, UnknownVerb, WordCount, BadEscape, OutOfMemory}
 
@@ -13,7 +13,7 @@ fault_of (WordOutOfMemory error) = OutOfMemory error
 abbrev pub fault_text : Fault → List ℕ
 fault_text NoVerb = codes "no verb"
 fault_text (UnknownVerb verb) = codes "unknown verb " ++ string_bytes verb
-fault_text (WordCount check given) = verb_text check ++ (codes " takes 2 words, not " ++ decimal given)
+fault_text (WordCount verb given) = verb_text verb ++ (codes " takes " ++ (taken_text verb ++ (codes ", not " ++ decimal given)))
 fault_text (BadEscape text) = codes "bad escape in " ++ string_bytes text
 fault_text (OutOfMemory error) = codes "out of memory"
 
@@ -21,6 +21,6 @@ fault_text (OutOfMemory error) = codes "out of memory"
 abbrev pub IfNoCall : Fault → Type 0 → Type 0
 IfNoCall NoVerb P = P
 IfNoCall (UnknownVerb verb) P = P
-IfNoCall (WordCount check given) P = P
+IfNoCall (WordCount verb given) P = P
 IfNoCall (BadEscape text) P = P
 IfNoCall (OutOfMemory error) P = Unit {0}

@@ -1,4 +1,5 @@
 pub mod Outcomes
+pub mod Verbs
 pub mod Faults
 pub mod Answers
 pub mod Runs

@@ -55,10 +55,10 @@ abbrev pub outcome_text : Outcome → List ℕ
 outcome_text (compared x y matches) = shortest_text x ++ (codes " " ++ (shortest_text y ++ verdict_text matches))
 outcome_text (sent_back refusal side) = refusal_text refusal ++ (codes " " ++ side_name side)
 
-abbrev pub verb_text : AmountCheck → List ℕ
-verb_text Price = codes "price"
-verb_text Notional = codes "notional"
+abbrev pub check_text : AmountCheck → List ℕ
+check_text Price = codes "price"
+check_text Notional = codes "notional"
 
 -- the answer to a pair of texts under a check
 abbrev pub pair_text : AmountCheck → List ℕ → List ℕ → List ℕ
-pair_text check first second = verb_text check ++ (codes " " ++ outcome_text (outcome_of check first second))
+pair_text check first second = check_text check ++ (codes " " ++ outcome_text (outcome_of check first second))

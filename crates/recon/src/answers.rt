@@ -1,12 +1,14 @@
 // Answers the lines of a journal.
 ghost use Rattle.std.specs.Prelude.{◌≡◌, map, IfOk, IfErr, Some, vec_items, string_bytes};
-ghost use Rattle.recon.specs.Answers.{answer_of, call_answer, no_call, said, text};
+ghost use Rattle.recon.specs.Answers.{answer_of, call_answer, day_text, no_call, said, text};
 ghost use Rattle.recon.specs.Faults.{IfNoCall};
 ghost use Rattle.recon.specs.Outcomes.{pair_text};
 
 use crate::compare::compare_amounts;
 use crate::comparison::AmountCheck;
 use crate::fault::Fault;
+use crate::verb::Verb;
+use almanac::days::look_up;
 use journal::escapes::escape;
 use journal::lines::first_word;
 use journal::words::read_words;
@@ -27,6 +29,16 @@ fn pair_answer(
     }
 }
 
+// The answer to a day.
+fn day_answer(alloc: Global, word: &[u8]) -> Result<String, AllocError>
+    ensures { IfOk result (λ s. string_bytes s ≡ day_text word.now) }
+{
+    match look_up(word) {
+        Ok(facts) => format!(in alloc; "day {facts}"),
+        Err(refusal) => format!(in alloc; "day {refusal}"),
+    }
+}
+
 // The answer to a verb and the words behind it.
 fn call_answer(alloc: Global, words: &[Vec<u8>]) -> Result<String, Fault>
     ensures answered { IfOk result (λ s. text (string_bytes s) ≡ call_answer (Some (map vec_items words.now))) }
@@ -35,13 +47,16 @@ fn call_answer(alloc: Global, words: &[Vec<u8>]) -> Result<String, Fault>
     let [verb, behind @ ..] = words else {
         return Err(Fault::NoVerb);
     };
-    let Ok(check) = AmountCheck::try_from(verb.as_slice()) else {
+    let Ok(verb) = Verb::try_from(verb.as_slice()) else {
         return Err(Fault::UnknownVerb(escape(alloc, verb.as_slice())?));
     };
-    let [first, second] = behind else {
-        return Err(Fault::WordCount(check, behind.len()));
-    };
-    Ok(pair_answer(alloc, check, first.as_slice(), second.as_slice())?)
+    match (verb, behind) {
+        (Verb::Compare(check), [first, second]) => {
+            Ok(pair_answer(alloc, check, first.as_slice(), second.as_slice())?)
+        }
+        (Verb::Day, [word]) => Ok(day_answer(alloc, word.as_slice())?),
+        _ => Err(Fault::WordCount(verb, behind.len())),
+    }
 }
 
 // The answer to a line, or nothing where it is blank or a comment.

@@ -1,12 +1,10 @@
 // Compares two amounts as a journal spells them.
 ghost use Rattle.std.specs.Prelude.{◌≡◌, Some, Ok, Err};
-ghost use Rattle.std.specs.Result.{result_ok};
 ghost use Rattle.refusals.specs.Words.{parts_of};
-ghost use Rattle.recon.specs.Answers.{check_named};
-ghost use Rattle.recon.specs.Outcomes.{bad_field, check_of, outcome, outcome_of, outcome_text, side_name, verb_text};
+ghost use Rattle.recon.specs.Outcomes.{bad_field, check_of, outcome, outcome_of, outcome_text, check_text, side_name};
 ghost use Rattle.amounts.specs.Amounts.{worth};
 
-use crate::comparison::{AmountCheck, Comparison, SentBack, Side, UnknownVerb};
+use crate::comparison::{AmountCheck, Comparison, SentBack, Side};
 use amounts::amount::Amount;
 use refusals::refusal::Refusal;
 use refusals::tag::Tag;
@@ -60,23 +58,8 @@ pub fn compare_amounts(
     }
 }
 
-// A verb asks for the check that it names.
-impl<'a> TryFrom<&'a [u8]> for AmountCheck {
-    type Error = UnknownVerb;
-
-    ghost try_from_gives = { λ verb check. result_ok check ≡ check_named verb.now };
-
-    fn try_from(verb: &'a [u8]) -> Result<AmountCheck, UnknownVerb> {
-        match verb {
-            b"price" => Ok(AmountCheck::Price),
-            b"notional" => Ok(AmountCheck::Notional),
-            _ => Err(UnknownVerb),
-        }
-    }
-}
-
 impl fmt::Display for AmountCheck {
-    ghost output = { λ c. Some (verb_text c) };
+    ghost output = { λ c. Some (check_text c) };
 
     fn fmt<W: fmt::Write>(&self, f: &mut fmt::Formatter<W>) -> fmt::Result {
         match self {

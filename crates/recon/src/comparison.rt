@@ -12,10 +12,6 @@ pub enum AmountCheck {
     Notional,
 }
 
-// A word that names no check.
-#[derive(Clone, Copy, Debug)]
-pub struct UnknownVerb;
-
 // One of two texts that are compared.
 #[derive(Clone, Copy, Debug)]
 pub enum Side {

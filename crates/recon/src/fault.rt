@@ -3,7 +3,7 @@ ghost use Rattle.std.specs.Prelude.{◌≡◌, alloc_error, Some};
 ghost use Rattle.recon.specs.Faults.{fault_of, fault_text};
 ghost use Rattle.recon.specs.declared.fault.Fault.TheVariants.{OutOfMemory};
 
-use crate::comparison::AmountCheck;
+use crate::verb::Verb;
 use journal::escapes::WordError;
 use std::alloc::AllocError;
 use std::fmt;
@@ -13,8 +13,8 @@ use std::fmt;
 pub enum Fault {
     NoVerb,
     UnknownVerb(String),
-    // how many words stood behind a verb, which takes two
-    WordCount(AmountCheck, usize),
+    // how many words stood behind a verb that takes another number of them
+    WordCount(Verb, usize),
     BadEscape(String),
     OutOfMemory(AllocError),
 }
@@ -46,7 +46,10 @@ impl fmt::Display for Fault {
         match self {
             Fault::NoVerb => write!(f, "no verb"),
             Fault::UnknownVerb(verb) => write!(f, "unknown verb {verb}"),
-            Fault::WordCount(verb, given) => write!(f, "{verb} takes 2 words, not {given}"),
+            Fault::WordCount(verb, given) => {
+                let taken = verb.taken();
+                write!(f, "{verb} takes {taken}, not {given}")
+            }
             Fault::BadEscape(word) => write!(f, "bad escape in {word}"),
             Fault::OutOfMemory(_) => write!(f, "out of memory"),
         }

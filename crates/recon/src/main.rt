@@ -8,6 +8,7 @@ mod fault;
 mod run;
 #[cfg(test)]
 mod tests;
+mod verb;
 
 use run::Run;
 use std::io::Read;

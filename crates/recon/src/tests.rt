@@ -62,7 +62,14 @@ fn calls_are_answered(rt: HostRuntime) -> Result<(), Fail> {
         alloc,
         b"notional 1%202 5",
         "notional refused 3 bad field tag 21 first",
-    )
+    )?;
+    is_answered(
+        &rt,
+        alloc,
+        b" day\t2020-04-09",
+        "day 2020-04-09 business next 2020-04-14 second 2020-04-15",
+    )?;
+    is_answered(&rt, alloc, b"day 20200409", "day refused 3 bad field tag 8")
 }
 
 #[test]
@@ -77,6 +84,8 @@ fn other_lines_are_told_what_is_wrong(rt: HostRuntime) -> Result<(), Fail> {
         b"notional 1 2 3",
         "notional takes 2 words, not 3",
     )?;
+    is_no_call(&rt, alloc, b"day", "day takes 1 word, not 0")?;
+    is_no_call(&rt, alloc, b"day 2020-04-09 1", "day takes 1 word, not 2")?;
     is_no_call(&rt, alloc, b"price 1%2 1", "bad escape in 1%252")?;
     is_no_call(&rt, alloc, b"price 1 %G0", "bad escape in %25G0")
 }

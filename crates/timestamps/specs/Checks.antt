@@ -20,6 +20,6 @@ abbrev pub named_off_exchange : Option (List ℕ) → Bool
 named_off_exchange None = false
 named_off_exchange (Some venue) = off_exchange venue
 
--- tolerance check 3: the same date and, unless both venues are off exchange, at most an hour apart
+-- tolerance check 3: one date and, but for two venues off exchange, no more than an hour between
 abbrev pub within_an_hour : Option (List ℕ) → Option (List ℕ) → ℕ → ℕ → Bool
 within_an_hour v w i j = same_date i j && ((named_off_exchange v && named_off_exchange w) || nat_le (apart i j) 3600)

@@ -6,7 +6,7 @@ use Rattle.calendar.specs.Text.{NamesDay, date_of, date_text}
 abbrev pub day_seconds : ℕ
 day_seconds = 86400
 
--- hours to 23, minutes and seconds to 59
+-- a time of day on a clock of 24 hours, with no leap second
 abbrev pub is_time : ℕ → ℕ → ℕ → Bool
 is_time hour minute second = nat_le hour 23 && (nat_le minute 59 && nat_le second 59)
 

@@ -42,8 +42,8 @@ impl BusinessDay {
         BusinessDay::after(BusinessDay::after(date)?.date)
     }
 
-    // The due day of a report of day T that is entered today: the later of the second business day after T and the
-    // first after today. Past 2099 it never comes, and there is none.
+    // From which day a report of day T that is entered today is expected to find its other side; none where that day
+    // lies past 2099.
     pub fn due(day_t: Date, today: BusinessDay) -> Option<BusinessDay>
         ensures { option_map day_no result ≡ due_day (number day_t) (day_no today) }
     {

@@ -31,8 +31,8 @@ fn is_fixed_holiday(date: Date) -> bool
 fn is_easter_holiday(date: Date) -> bool
     ensures { result ≡ easter_holiday (number date) (easter_sunday (year_at (number date))) }
 {
-    let day = date.day_count();
-    let sunday = date.year().easter().day_count();
+    let day = date.days_since_2000();
+    let sunday = date.year().easter().days_since_2000();
     day + 2 == sunday || day == sunday + 1
 }
 
@@ -75,7 +75,7 @@ impl BusinessDay {
     }
 
     pub fn date(self) -> Date
-        ensures { result ≡ self.date }
+        ensures { number result ≡ day_no self }
     {
         self.date
     }

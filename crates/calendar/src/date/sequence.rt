@@ -12,7 +12,7 @@ const LAST_DAY: u16 = 36_524;
 
 impl Date {
     // The days since 2000-01-01.
-    pub fn day_count(self) -> u16
+    pub fn days_since_2000(self) -> u16
         ensures value { result ≡ number self }
         ensures bound { result < 36525 }
     {

@@ -1,5 +1,6 @@
 // The day of a timestamp, and the time of that day.
-ghost use Rattle.std.specs.Prelude.{◌≡◌, ◌%◌};
+ghost use Rattle.std.specs.Prelude.{◌≡◌, ◌/◌, ◌%◌};
+ghost use Rattle.calendar.specs.Dates.{number};
 ghost use Rattle.timestamps.specs.Times.{day_seconds};
 ghost use Rattle.timestamps.specs.Timestamps.{instant};
 
@@ -8,7 +9,7 @@ use calendar::date::Date;
 
 impl Timestamp {
     pub fn date(self) -> Date
-        ensures { result ≡ self.date }
+        ensures { number result ≡ instant self / day_seconds }
     {
         self.date
     }

@@ -1,0 +1,13 @@
+use Rattle.std.proofs.Common.{codes, sym, ap, arith, rules}
+use Rattle.std.proofs.lemmas.Slice.Eq.{text_from_reads}
+use Rattle.recon.specs.Verbs.{verb_named}
+use Rattle.recon.proofs.verb.word.VerbTryFromRefSliceU8.try_from.Goals as goal
+
+pub returns-in-price : goal.returns-in-price
+returns-in-price c = sym (ap verb_named (text_from_reads c.args.word.now (codes "price") (omega arith) (search rules)))
+
+pub returns-in-notional : goal.returns-in-notional
+returns-in-notional c = sym (ap verb_named (text_from_reads c.args.word.now (codes "notional") (omega arith) (search rules)))
+
+pub returns-in-day : goal.returns-in-day
+returns-in-day c = sym (ap verb_named (text_from_reads c.args.word.now (codes "day") (omega arith) (search rules)))

@@ -1,0 +1,16 @@
+// What a line of a journal can ask for.
+pub mod word;
+
+use crate::comparison::AmountCheck;
+
+#[derive(Clone, Copy, Debug)]
+pub enum Verb {
+    // two amounts, under a check
+    Compare(AmountCheck),
+    // what the calendar tells of a day
+    Day,
+}
+
+// A word that names no verb.
+#[derive(Clone, Copy, Debug)]
+pub struct UnknownVerb;

@@ -1,0 +1,46 @@
+// The word of each verb, and how many words it takes.
+ghost use Rattle.std.specs.Prelude.{◌≡◌, Some};
+ghost use Rattle.std.specs.Result.{result_ok};
+ghost use Rattle.recon.specs.Verbs.{taken_text, verb_named, verb_text};
+
+use crate::comparison::AmountCheck;
+use crate::verb::{UnknownVerb, Verb};
+use std::fmt;
+
+impl<'a> TryFrom<&'a [u8]> for Verb {
+    type Error = UnknownVerb;
+
+    ghost try_from_gives = { λ word verb. result_ok verb ≡ verb_named word.now };
+
+    fn try_from(word: &'a [u8]) -> Result<Verb, UnknownVerb> {
+        match word {
+            b"price" => Ok(Verb::Compare(AmountCheck::Price)),
+            b"notional" => Ok(Verb::Compare(AmountCheck::Notional)),
+            b"day" => Ok(Verb::Day),
+            _ => Err(UnknownVerb),
+        }
+    }
+}
+
+impl fmt::Display for Verb {
+    ghost output = { λ v. Some (verb_text v) };
+
+    fn fmt<W: fmt::Write>(&self, f: &mut fmt::Formatter<W>) -> fmt::Result {
+        match self {
+            Verb::Compare(check) => write!(f, "{check}"),
+            Verb::Day => write!(f, "day"),
+        }
+    }
+}
+
+impl Verb {
+    // The words that stand behind the verb, as they are told.
+    pub fn taken(self) -> &'static str
+        ensures { result.now ≡ taken_text self }
+    {
+        match self {
+            Verb::Compare(_) => "2 words",
+            Verb::Day => "1 word",
+        }
+    }
+}
