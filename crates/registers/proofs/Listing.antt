@@ -2,21 +2,21 @@
 use Rattle.std.proofs.Common.{◌≡◌, ℕ, ◌<◌, List, map, length, take, is_ok, Ok, Err, Decides, Result, Ordering, sym, refl, ap, ◌∙◌, subst, arith}
 use Rattle.codes.specs.Codes.{text_order}
 use Rattle.std.proofs.lemmas.Cmp.{nat_list_cmp_total, tied_itself}
-use Rattle.std.proofs.lemmas.List.{get_or-map, length-map, map-id, take_all}
+use Rattle.std.proofs.lemmas.List.{get_or-map, length-map, map-id}
 use Rattle.std.proofs.lemmas.Map.Lookups.{exact_bytes}
 use Rattle.std.specs.List.{ContainsAt as Has}
 use Rattle.std.specs.Ordering.{on}
-use Rattle.table.specs.Order.{Answers, Ascending, keys}
+use Rattle.table.specs.Order.{Answers, keys}
 
-module _ {K : Type 0} (text : K → List ℕ) (xs : List K) (k : K) where
+module _ {K : Type 0} (text : K → List ℕ) (k : K) where
   abbrev by_text : K → K → Ordering
   by_text = on text text_order
 
-  listed : (r : Result ℕ ℕ) → Answers by_text xs k r → Decides (is_ok r) (Has (map text xs) (text k))
-  listed (Ok i) a =
+  listed : (xs : List K) (r : Result ℕ ℕ) → Answers by_text xs k r → Decides (is_ok r) (Has (map text xs) (text k))
+  listed xs (Ok i) a =
       let s = a.ok i refl in
       (λ _. (i, omega (arith, length-map xs text, s.0), λ d. get_or-map text xs i k d s.0 ∙ exact_bytes _ _ (s.1 k)), λ _. refl)
-  listed (Err i) a = (
+  listed xs (Err i) a = (
     λ e. absurd (cc),
     λ has.
         let h : has.0 < length xs = omega (arith, length-map xs text, has.1) in
@@ -25,8 +25,6 @@ module _ {K : Type 0} (text : K → List ℕ) (xs : List K) (k : K) where
         absurd (cc),
   )
 
-  -- a search of a table all of whose rows are used
-  pub listed_among : (r : Result ℕ ℕ) → (Ascending by_text (keys (λ (x : K). x) (length xs) xs) → Answers by_text (keys (λ (x : K). x) (length xs) xs) k r) → Ascending by_text (map (λ (x : K). x) xs) → Decides (is_ok r) (Has (map text xs) (text k))
-  listed_among r law up =
-      let used : keys (λ (x : K). x) (length xs) xs ≡ xs = map-id (take (length xs) xs) ∙ take_all (length xs) xs (omega arith) in
-      listed r (subst (λ (ks : List K). Ascending by_text ks → Answers by_text ks k r) used law (subst (Ascending by_text) (map-id xs) up))
+  -- the used rows, each of which is its own key
+  pub listed_among : (xs : List K) (used : ℕ) (r : Result ℕ ℕ) → Answers by_text (keys (λ (x : K). x) used xs) k r → Decides (is_ok r) (Has (map text (take used xs)) (text k))
+  listed_among xs used r law = listed (take used xs) r (subst (λ (ks : List K). Answers by_text ks k r) (map-id (take used xs)) law)

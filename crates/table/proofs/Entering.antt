@@ -1,5 +1,5 @@
 -- A row entered among the used ones.
-use Rattle.std.proofs.Common.{◌≡◌, ℕ, suc, ◌+◌, ◌-◌, ◌<◌, ◌≤◌, List, [], ◌∷◌, ◌++◌, map, length, get_or, take, drop, set, Err, Result, Ordering, Less, sym, ap, ◌∙◌, subst, ⊎_elim, arith}
+use Rattle.std.proofs.Common.{◌≡◌, ℕ, suc, ◌+◌, ◌-◌, ◌<◌, ◌≤◌, List, [], ◌∷◌, ◌++◌, map, length, get_or, min, take, drop, set, is_ok, Ok, Err, Result, Ordering, Less, refl, sym, ap, ◌∙◌, subst, ⊎_elim, arith}
 use lib.Seq.{paste}
 use Rattle.std.proofs.lemmas.List.Edits.{length-insert, get_or-insert_below, get_or-insert_at, get_or-insert_above}
 use Rattle.std.proofs.lemmas.List.{append_assoc, drop_at, drop-drop, drop-map, drop-take, get_or_append_left, get_or-append_right, get_or-drop, get_or-take, length-take-le, map-append, set_at, take_at, take-map, take_more, take-take}
@@ -7,9 +7,11 @@ use Rattle.std.proofs.lemmas.Bool.{cases_order}
 use Rattle.std.specs.Cmp.{IsTotalOrder}
 use Rattle.std.specs.List.{insert}
 use Rattle.std.specs.Ordering.{ordering_reverse}
-use Rattle.table.specs.Changes.{BlanksBehind, PutIn, entered}
-use Rattle.table.specs.Order.{Ascending, keys, place}
-use Rattle.table.proofs.Searching.{Parts, Placed, placed}
+use Rattle.table.specs.Changes.{BlanksBehind, Inserts, PutIn, Tells, entered, used_after}
+use Rattle.table.specs.Order.{Ascending, MissingAt, keys}
+use Rattle.table.specs.declared.insertion.NotEntered.{NotEntered}
+use Rattle.table.specs.declared.insertion.NotEntered.TheVariants.{Full, Known}
+use Rattle.table.proofs.Searching.{Parts, Searched, parts}
 
 written : {X : Type 0} (ps bs cs : List X) (y x : X) (n : ℕ) → length ps ≡ n → set (((ps ++ y ∷ []) ++ bs) ++ cs) n x ≡ (ps ++ x ∷ bs) ++ cs
 written ps bs cs y x n e =
@@ -64,6 +66,8 @@ module _ {X : Type 0} (xs : List X) (used i : ℕ) (x : X) (le : i ≤ used) (lt
   put_in ys moved =
       let e : set ys i x ≡ entered xs used i x = ap (λ zs. set zs i x) moved ∙ shifted in
       record {
+        room = lt;
+        within = le;
         rows = e;
         before = λ j d h. ap (λ zs. get_or zs j d) e ∙ before_entered j d h;
         moved = λ j d h below. ap (λ zs. get_or zs (j + 1) d) e ∙ moved_entered j d h below;
@@ -112,11 +116,36 @@ module _ {K : Type 0} {cmp : K → K → Ordering} (total : IsTotalOrder cmp) (k
       (cases_order a i)))
       (cases_order b i)
 
--- where `place` has no such key, it may be entered there
-ascending_placed : {K : Type 0} {cmp : K → K → Ordering} (total : IsTotalOrder cmp) → (ks : List K) (k : K) (i : ℕ) → Ascending cmp ks → place cmp ks k ≡ Err i → Ascending cmp (insert ks i k)
-ascending_placed {K} {cmp} total ks k i up e = ascending_between total ks k i up (subst (λ (r : Result ℕ ℕ). Placed cmp ks k r) e (placed total ks k up))
+-- a row put in where its key is missing keeps the order
+pub ascending_entered : {X K : Type 0} {cmp : K → K → Ordering} (total : IsTotalOrder cmp) (id : X → K) (xs ys : List X) (used i : ℕ) (x : X) → PutIn used xs x ys i → Ascending cmp (keys id used xs) → MissingAt cmp (keys id used xs) (id x) i → Ascending cmp (keys id (suc used) ys)
+ascending_entered {X} {K} {cmp} total id xs ys used i x put up missing =
+    let ks = keys id used xs in
+    subst (λ (ks : List K). Ascending cmp ks) (sym (ap (keys id (suc used)) put.rows ∙ keys-entered xs used i x put.within put.room id))
+    (ascending_between total ks (id x) i up (parts total ks (id x) up i missing))
 
--- a row entered at its place keeps the order
-pub ascending_entered : {X K : Type 0} {cmp : K → K → Ordering} (total : IsTotalOrder cmp) (id : X → K) → (xs ys : List X) (used i : ℕ) (x : X) → i ≤ used → used < length xs → ys ≡ entered xs used i x → Ascending cmp (keys id used xs) → place cmp (keys id used xs) (id x) ≡ Err i → Ascending cmp (keys id (suc used) ys)
-ascending_entered {X} {K} {cmp} total id xs ys used i x le lt e up at =
-    subst (λ (ks : List K). Ascending cmp ks) (sym (ap (keys id (suc used)) e ∙ keys-entered xs used i x le lt id)) (ascending_placed total (keys id used xs) (id x) i up at)
+-- what an insertion of the row x answers, by what a search of the used rows for its key did
+module _ {X K : Type 0} (cmp : K → K → Ordering) (id : X → K) (used : ℕ) (xs : List X) (x : X) where
+  -- its key is known
+  pub known : (i : ℕ) → Searched cmp id used xs (id x) (Ok i) → Inserts cmp id used xs x xs (Err (Known i))
+  known i found = (refl, found.within.0, found.within.1, found.stands)
+
+  pub known_told : (i : ℕ) → Searched cmp id used xs (id x) (Ok i) → Ascending cmp (keys id used xs) → Tells cmp (keys id used xs) (id x) (Err (Known i))
+  known_told i found up = sym (found.law up).value
+
+  -- it is new, and there was room
+  pub entered_told : (i : ℕ) → Searched cmp id used xs (id x) (Err i) → Ascending cmp (keys id used xs) → Tells cmp (keys id used xs) (id x) (Ok i)
+  entered_told i found up = let a = found.law up in (sym a.value, a.err i refl)
+
+  pub in_place : (i : ℕ) → Searched cmp id used xs (id x) (Err i) → min i used ≡ i
+  in_place i found = omega (arith, found.within.0)
+
+  -- it is new, and there was none
+  module _ (r : Result ℕ NotEntered) (is : r ≡ Err Full) where
+    pub full : (ys : List X) → ys ≡ xs → length xs ≤ used → Inserts cmp id used xs x ys r
+    full ys same none = subst (Inserts cmp id used xs x ys) (sym is) (same, none)
+
+    pub full_told : (i : ℕ) → Searched cmp id used xs (id x) (Err i) → Ascending cmp (keys id used xs) → Tells cmp (keys id used xs) (id x) r
+    full_told i found up = let a = found.law up in subst (Tells cmp (keys id used xs) (id x)) (sym is) (ap is_ok (sym a.value), (a.err i refl).nowhere)
+
+    pub full_ascends : (ys : List X) → ys ≡ xs → Ascending cmp (keys id used xs) → Ascending cmp (keys id (used_after used r) ys)
+    full_ascends ys same up = subst (λ (r : Result ℕ NotEntered). Ascending cmp (keys id (used_after used r) ys)) (sym is) (subst (λ (zs : List X). Ascending cmp (keys id used zs)) (sym same) up)

@@ -9,7 +9,7 @@ use Rattle.std.proofs.lemmas.List.Kept.{AllPairs-filter}
 use Rattle.std.proofs.lemmas.Slice.{put_mid-paste}
 use Rattle.std.specs.List.{FoldsTo}
 use Rattle.table.specs.Changes.{Closes, kept}
-use Rattle.table.specs.Order.{Ascending}
+use Rattle.table.specs.Order.{Ascending, keys}
 use Rattle.table.proofs.Searching.{cut, keys_from_rows, rows_from_keys}
 
 -- what is left of ascending rows ascends
@@ -40,7 +40,7 @@ cut_behind xs used end e =
     (cases_lt used (length xs))
 
 -- all used rows were looked at, and blanks stand behind the kept ones
-module _ {X K : Type 0} (cmp : K → K → Ordering) (id : X → K) (freed : X → Bool) (blank : X) (all ys zs : List X) (used end n : ℕ) (clamped : end ≡ min used (length all)) (done : FiltersInPlace (λ x. not (freed x)) all ys n end) (filled : zs ≡ paste ys n (replicate (end - n) blank) (end - n)) where
+module _ {X : Type 0} (freed : X → Bool) (blank : X) (all ys zs : List X) (used end n : ℕ) (clamped : end ≡ min used (length all)) (done : FiltersInPlace (λ x. not (freed x)) all ys n end) (filled : zs ≡ paste ys n (replicate (end - n) blank) (end - n)) where
   same_front : take end all ≡ take used all
   same_front = cut all used end clamped
 
@@ -71,16 +71,18 @@ module _ {X K : Type 0} (cmp : K → K → Ordering) (id : X → K) (freed : X �
       ∙ get_or-drop end all (j - end) d
       ∙ ap (λ m. get_or all m d) back
 
-  pub closes : Closes cmp id freed blank used all zs n
+  pub closed_ascends : {K : Type 0} (cmp : K → K → Ordering) (id : X → K) → Ascending cmp (keys id used all) → Ascending cmp (keys id n zs)
+  closed_ascends cmp id up =
+      let e : take n zs ≡ kept freed (take used all) = ap (take n) blanked ∙ take_at (kept freed (take used all)) (replicate (end - n) blank ++ drop used all) n count in
+      subst (λ (xs : List X). Ascending cmp (map id xs)) (sym e) (ascending_kept cmp id freed (take used all) up)
+
+  pub closes : Closes freed blank used all zs n
   closes =
       let old : length (take used all) ≡ end = ap length (sym same_front) ∙ length-take-le end all done.within in
       let gap : length (take used all) - length (kept freed (take used all)) ≡ end - n = omega (arith, old, count) in
       record {
         count = sym count;
         rows = blanked ∙ ap (λ m. kept freed (take used all) ++ (replicate m blank ++ drop used all)) (sym gap);
-        ascends = λ up.
-            let e : take n zs ≡ kept freed (take used all) = ap (take n) blanked ∙ take_at (kept freed (take used all)) (replicate (end - n) blank ++ drop used all) n count in
-            subst (λ (xs : List X). Ascending cmp (map id xs)) (sym e) (ascending_kept cmp id freed (take used all) up);
         beyond = beyond;
         blanks = λ m rest le h.
             let g : end - n + m ≡ used - n + m = omega (arith, clamped) in

@@ -1,5 +1,6 @@
 -- Where a key stands in an ascending list.
-use Rattle.std.proofs.Common.{◌≡◌, ℕ, zero, suc, ◌+◌, ◌<◌, ◌≤◌, Bool, true, false, Decides, List, [], ◌∷◌, map, min, length, get_or, take, Ok, Err, Result, Ordering, Less, Equal, Greater, sym, refl, ap, ◌∙◌, subst, ⊎_elim, arith, MatchResult}
+use Rattle.std.proofs.Common.{◌≡◌, ℕ, zero, suc, ◌+◌, ◌<◌, ◌≤◌, Bool, true, false, Decides, List, [], ◌∷◌, map, min, length, get_or, take, Ok, Err, Result, Ordering, Less, Equal, Greater, sym, refl, ap, ◌∙◌, subst, ⊎_elim, arith, IfOk, MatchResult}
+use Prim.{tt}
 use Rattle.std.proofs.lemmas.Bool.{cases_lt, cases_order}
 use Rattle.std.proofs.lemmas.Cmp.{on_total, tied_back}
 use Rattle.std.proofs.lemmas.List.{get_or-map, length-map, length-take, take_all}
@@ -9,7 +10,7 @@ use Rattle.std.specs.Cmp.{IsTotalOrder}
 use Rattle.std.specs.List.{AllAdjacentBelow, AllPairs, IsAllAdjacentAnswer}
 use Rattle.std.specs.List.Sorted.{IsBinarySearchResult, IsPartitionPoint, IsSearchInRange}
 use Rattle.std.specs.Ordering.{is_lt, on, ordering_reverse}
-use Rattle.table.specs.Order.{Answers, Ascending, MissingAt, StandsAt, place, past}
+use Rattle.table.specs.Order.{Answers, Ascending, MissingAt, StandsAt, keys, place, past}
 
 -- the keys below the place i are less, and those from there on are greater
 abbrev pub Parts : {K : Type 0} → (K → K → Ordering) → List K → K → ℕ → Type 0
@@ -53,6 +54,11 @@ module _ {X K : Type 0} (id : X → K) (P : K → Type 0) where
   key_at [] i h at d = absurd (omega arith)
   key_at (x ∷ xs) i h at d = subst P (sym (get_or-map id (x ∷ xs) i x d h)) (at x)
 
+-- a key that a binary search finds stands there, whatever the order of the rows
+pub stands : {X K : Type 0} (cmp : K → K → Ordering) (id : X → K) (xs : List X) (k : K) (r : Result ℕ ℕ) → IsSearchInRange r (length xs) → IsBinarySearchResult (λ x. cmp (id x) k) xs r → IfOk r (StandsAt cmp (map id xs) k)
+stands cmp id xs k (Ok i) h s = (omega (arith, length-map xs id), key_at id (λ y. cmp y k ≡ Equal) xs i h s)
+stands cmp id xs k (Err i) h s = tt
+
 module _ {K : Type 0} {cmp : K → K → Ordering} (total : IsTotalOrder cmp) where
   module _ (ks : List K) (k : K) (up : Ascending cmp ks) where
     one_place : (i j : ℕ) → i < j → StandsAt cmp ks k i → StandsAt cmp ks k j → ⊥
@@ -86,11 +92,12 @@ module _ {K : Type 0} {cmp : K → K → Ordering} (total : IsTotalOrder cmp) wh
       only_below = λ j d h e. ⊎_elim (λ l. l) (λ g. let f = p.1.1 j d g h in absurd (cc)) (cases_lt j i);
     }
 
-    parts : (i : ℕ) → MissingAt cmp ks k i → Parts cmp ks k i
+    pub parts : (i : ℕ) → MissingAt cmp ks k i → Parts cmp ks k i
     parts i m = (m.within, ((λ j d l h. m.below j d h), λ j d l h. greater_else _ (λ e. let f = m.only_below j d h e in omega arith) (m.nowhere j d h)))
 
-    pub answers : (r : Result ℕ ℕ) → Placed cmp ks k r → Answers cmp ks k r
-    answers r a = record {
+    pub answers : (r : Result ℕ ℕ) → Placed cmp ks k r → r ≡ place cmp ks k → Answers cmp ks k r
+    answers r a value = record {
+      value = value;
       ok = λ i e. subst (λ (r : Result ℕ ℕ). Placed cmp ks k r) e a;
       ok_only = λ i s. same r (Ok i) a s;
       err = λ i e. missing i (subst (λ (r : Result ℕ ℕ). Placed cmp ks k r) e a);
@@ -125,8 +132,8 @@ module _ {K : Type 0} {cmp : K → K → Ordering} (total : IsTotalOrder cmp) wh
   placed (x ∷ ks) k up = placed-cons x ks k up (cmp x k) (place cmp ks k) refl (placed ks k (λ i j d lt h. up (suc i) (suc j) d (omega arith) (omega arith)))
 
   -- and so does whatever else tells a place
-  pub found : (ks : List K) (k : K) (up : Ascending cmp ks) (r : Result ℕ ℕ) → Placed cmp ks k r → (r ≡ place cmp ks k) × Answers cmp ks k r
-  found ks k up r a = (same ks k up r (place cmp ks k) a (placed ks k up), answers ks k up r a)
+  pub found : (ks : List K) (k : K) (up : Ascending cmp ks) (r : Result ℕ ℕ) → Placed cmp ks k r → Answers cmp ks k r
+  found ks k up r a = answers ks k up r a (same ks k up r (place cmp ks k) a (placed ks k up))
 
   -- as a binary search of the rows does
   module _ {X : Type 0} (id : X → K) (xs : List X) (k : K) (up : Ascending cmp (map id xs)) where
@@ -134,7 +141,7 @@ module _ {K : Type 0} {cmp : K → K → Ordering} (total : IsTotalOrder cmp) wh
     rising n d l h = ap is_lt {y = Greater} (total.antisymm _ _ ∙ ap ordering_reverse (rows_from_keys cmp id xs up n (n + 1) d (omega arith) h))
 
     pub searched : (r : Result ℕ ℕ) → IsSearchInRange r (length xs) → IsBinarySearchResult (λ x. cmp (id x) k) xs r → Placed cmp (map id xs) k r
-    searched (Ok i) h s = (omega (arith, length-map xs id), key_at id (λ y. cmp y k ≡ Equal) xs i h s)
+    searched (Ok i) h s = stands cmp id xs k (Ok i) h s
     searched (Err i) h s =
         let p = s (searchable_from_sorted total id xs k rising) in (
           omega (arith, length-map xs id),
@@ -167,7 +174,23 @@ module _ {X K : Type 0} {cmp : K → K → Ordering} (total : IsTotalOrder cmp) 
 pub cut : {X : Type 0} (xs : List X) (used end : ℕ) → end ≡ min used (length xs) → take end xs ≡ take used xs
 cut xs used end e = ⊎_elim (λ l. ap (λ n. take n xs) (omega arith)) (λ g. take_all end xs (omega arith) ∙ sym (take_all used xs (omega arith))) (cases_lt used (length xs))
 
+-- r is what a search of the used rows answers
+pub record Searched {X K : Type 0} (cmp : K → K → Ordering) (id : X → K) (used : ℕ) (xs : List X) (k : K) (r : Result ℕ ℕ) : Type 0 where
+  pub within : MatchResult r (λ i. (i < used) × (i < length xs)) (λ i. (i ≤ used) × (i ≤ length xs))
+  pub stands : IfOk r (StandsAt cmp (keys id used xs) k)
+  pub law : Ascending cmp (keys id used xs) → Answers cmp (keys id used xs) k r
+
 -- a place among the used rows
-pub within_used : {X : Type 0} (xs : List X) (used end : ℕ) (r : Result ℕ ℕ) → end ≡ min used (length xs) → IsSearchInRange r (length (take end xs)) → MatchResult r (λ i. (i < used) × (i < length xs)) (λ i. (i ≤ used) × (i ≤ length xs))
+within_used : {X : Type 0} (xs : List X) (used end : ℕ) (r : Result ℕ ℕ) → end ≡ min used (length xs) → IsSearchInRange r (length (take end xs)) → MatchResult r (λ i. (i < used) × (i < length xs)) (λ i. (i ≤ used) × (i ≤ length xs))
 within_used xs used end (Ok i) e h = let n = length-take end xs in (omega arith, omega arith)
 within_used xs used end (Err i) e h = let n = length-take end xs in (omega arith, omega arith)
+
+-- as the code searches them
+pub in_used : {X K : Type 0} (cmp : K → K → Ordering) (id : X → K) (xs : List X) (used end : ℕ) (k : K) (r : Result ℕ ℕ) → end ≡ min used (length xs) → IsSearchInRange r (length (take end xs)) → IfOk r (StandsAt cmp (map id (take end xs)) k) → (Ascending cmp (map id (take end xs)) → Answers cmp (map id (take end xs)) k r) → Searched cmp id used xs k r
+in_used cmp id xs used end k r e within stands law =
+    let same = cut xs used end e in
+    record {
+      within = within_used xs used end r e within;
+      stands = subst (λ ys. IfOk r (StandsAt cmp (map id ys) k)) same stands;
+      law = subst (λ ys. Ascending cmp (map id ys) → Answers cmp (map id ys) k r) same law;
+    }

@@ -1,9 +1,10 @@
 // A row enters the table at its place.
-ghost use Rattle.std.specs.Prelude.{◌≡◌, suc, ◌<◌, ◌≤◌, length, Err, Some};
-ghost use Rattle.table.specs.Changes.{Inserts, PutIn, not_entered_text, used_after};
-ghost use Rattle.table.specs.Order.{Ascending, keys, place};
+ghost use Rattle.std.specs.Prelude.{◌≡◌, min, Some};
+ghost use Rattle.table.specs.Changes.{Inserts, InsertsAt, Tells, not_entered_text, used_after};
+ghost use Rattle.table.specs.Order.{Ascending, MissingAt, keys};
 
 use crate::container::Table;
+use crate::order::find;
 use keys::key::Keyed;
 use std::error::Error;
 use std::fmt;
@@ -30,32 +31,46 @@ impl fmt::Display for NotEntered {
 
 impl Error for NotEntered {}
 
-// Puts a row at a place among the used rows; those behind it move up by one.
-fn put_in<R: Keyed>(rows: &mut [R], used: usize, at: usize, row: R)
-    requires within { at ≤ used }
-    requires room { used < length rows.old }
-    ensures put { PutIn used rows.old row rows.new at }
-    ensures ascends { Ascending R.Key.cmp (keys R.id used rows.old) → place R.Key.cmp (keys R.id used rows.old) (R.id row) ≡ Err at → Ascending R.Key.cmp (keys R.id (suc used) rows.new) }
+// Puts a row at a place that a search gave, so that a caller who has searched need not search again; the rows from there
+// on move up by one. A place past the used rows is taken for the one right behind them. The only error is `Full`.
+pub fn insert_at<R: Keyed>(rows: &mut [R], used: usize, at: usize, row: R) -> Result<(), NotEntered>
+    ensures rows { InsertsAt used rows.old (min at used) row rows.new result }
+    ensures ascends { Ascending R.Key.cmp (keys R.id used rows.old) → MissingAt R.Key.cmp (keys R.id used rows.old) (R.id row) (min at used) → Ascending R.Key.cmp (keys R.id (used_after used result) rows.new) }
 {
+    if used >= rows.len() {
+        return Err(NotEntered::Full);
+    }
+    let at = at.min(used);
     rows.copy_within(at..used, at + 1);
     rows[at] = row;
+    Ok(())
 }
 
-impl<'t, R: Keyed> Table<&'t mut [R]> {
+// Enters a row at its place, unless its key is known or no blank is left.
+pub fn insert<R: Keyed>(rows: &mut [R], used: usize, row: R) -> Result<usize, NotEntered>
+    ensures rows { Inserts R.Key.cmp R.id used rows.old row rows.new result }
+    ensures key { Ascending R.Key.cmp (keys R.id used rows.old) → Tells R.Key.cmp (keys R.id used rows.old) (R.id row) result }
+    ensures ascends { Ascending R.Key.cmp (keys R.id used rows.old) → Ascending R.Key.cmp (keys R.id (used_after used result) rows.new) }
+{
+    match find(&rows[..used.min(rows.len())], row.key()) {
+        Ok(at) => Err(NotEntered::Known(at)),
+        Err(at) => {
+            insert_at(rows, used, at, row)?;
+            Ok(at)
+        }
+    }
+}
+
+impl<'t, R: Keyed> Table<R, &'t mut [R]> {
     // Enters a row at its place, unless its key is known or no blank is left.
     pub fn insert(&mut self, row: R) -> Result<usize, NotEntered>
         ensures lent { self.new.rows.ghost_name ≡ self.old.rows.ghost_name }
         ensures count { self.new.used ≡ used_after self.old.used result }
         ensures rows { Inserts R.Key.cmp R.id self.old.used self.old.rows.now row self.new.rows.now result }
+        ensures key { Tells R.Key.cmp (keys R.id self.old.used self.old.rows.now) (R.id row) result }
     {
-        match self.find(row.key()) {
-            Ok(at) => Err(NotEntered::Known(at)),
-            Err(_) if self.used >= self.rows.len() => Err(NotEntered::Full),
-            Err(at) => {
-                put_in(self.rows, self.used, at, row);
-                self.used += 1;
-                Ok(at)
-            }
-        }
+        let at = insert(self.rows, self.used, row)?;
+        self.used += 1;
+        Ok(at)
     }
 }

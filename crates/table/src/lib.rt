@@ -1,4 +1,4 @@
-// One ordered table for rows of every kind that has a key.
+// Rows of one kind, in the order of their keys, over memory that somebody lends.
 #![tactic(auto)]
 
 pub mod closing;

@@ -7,6 +7,7 @@ use crate::container::Table;
 use crate::order::is_ascending;
 use keys::key::Keyed;
 use refusals::refusal::Refusal;
+use std::marker::PhantomData;
 
 // The most entries that a register may have.
 pub const MOST_ENTRIES: usize = 65_536;
@@ -22,7 +23,7 @@ pub fn check_register<R: Keyed>(entries: &[R]) -> Result<(), Refusal>
     Ok(())
 }
 
-impl<'t, R: Keyed> Table<&'t [R]> {
+impl<'t, R: Keyed> Table<R, &'t [R]> {
     // A register, whose entries are all used. A list that is none is refused.
     pub fn register(entries: &'t [R]) -> Result<Self, Refusal>
         ensures { MatchResult result (λ t. (t.used ≡ length entries.now) × (t.rows.now ≡ entries.now) × IsRegister R.Key.cmp R.id entries.now) (λ e. (e ≡ RegisterDisordered) × (IsRegister R.Key.cmp R.id entries.now → ⊥)) }
@@ -31,6 +32,7 @@ impl<'t, R: Keyed> Table<&'t [R]> {
         Ok(Table {
             rows: entries,
             used: entries.len(),
+            kind: PhantomData,
         })
     }
 }

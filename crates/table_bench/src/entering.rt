@@ -13,7 +13,7 @@ pub fn enter_all(rows: &mut [Report], reports: &[Report]) -> Result<usize, NotEn
     ensures count { IfOk result (λ used. used ≡ length reports.now) }
     ensures ascends { IfOk result (λ used. Ascending (on text_of text_order) (keys (λ report. report.trade) used rows.new)) }
 {
-    let mut table = Table { rows, used: 0 };
+    let mut table = Table::empty(rows);
     for report in reports {
         table.insert(*report)?;
     }

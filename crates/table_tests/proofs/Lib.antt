@@ -1,0 +1,2 @@
+pub mod Desk
+pub mod Front

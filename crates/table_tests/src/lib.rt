@@ -7,6 +7,7 @@ pub mod uses;
 #[cfg(test)]
 mod tests {
     use crate::sample::{Sample, SampleKey};
+    use crate::uses::{enter_front, enter_sample_at};
     use codes::code::read::NotACode;
     use codes::code::{ClientCode, Country, Lei, TradeId};
     use refusals::refusal::Refusal;
@@ -31,12 +32,11 @@ mod tests {
     fn rows_enter_in_order_and_close_up(rt: HostRuntime) -> Result<(), Fail> {
         let blank = sample(b"0", b"0", 0)?;
         let mut slots = [blank; 3];
-        let mut table = Table {
-            rows: &mut slots[..],
-            used: 0,
-        };
+        let mut table = Table::empty(&mut slots[..]);
         assert_eq!(rt; table.insert(sample(b"T2", b"B", 1)?), Ok(0));
-        assert_eq!(rt; table.insert(sample(b"T2", b"AB", 2)?), Ok(0));
+        let row = sample(b"T2", b"AB", 2)?;
+        assert!(rt; table.find(&row.key) == Err(0));
+        assert_eq!(rt; table.insert(row), Ok(0));
         assert_eq!(rt;
             table.insert(sample(b"T2", b"B", 3)?),
             Err(NotEntered::Known(1))
@@ -51,6 +51,47 @@ mod tests {
         assert!(rt; table.find(&sample(b"T2", b"B", 0)?.key) == Ok(1));
         assert!(rt; table.find(&sample(b"T3", b"B", 0)?.key) == Err(2));
         assert!(rt; slots[0].mark == 2 && slots[1].mark == 1 && slots[2].mark == 0);
+        Ok(())
+    }
+
+    #[test]
+    fn a_row_enters_at_a_place_found_before(rt: HostRuntime) -> Result<(), Fail> {
+        let row = sample(b"T2", b"B", 1)?;
+        let mut slots = [row; 2];
+        assert_eq!(rt;
+            enter_sample_at(&mut slots[..], 1, 0, sample(b"T2", b"AB", 2)?),
+            Ok(())
+        );
+        assert_eq!(rt;
+            enter_sample_at(&mut slots[..], 2, 3, row),
+            Err(NotEntered::Full)
+        );
+        assert!(rt; slots[0].mark == 2 && slots[1].mark == 1);
+        Ok(())
+    }
+
+    #[test]
+    fn rows_out_of_order_make_no_table(rt: HostRuntime) -> Result<(), Fail> {
+        let rows = [sample(b"T2", b"A", 1)?, sample(b"T1", b"A", 2)?];
+        let taken = Table::new(&rows[..], 1).is_some();
+        let refused = Table::new(&rows[..], 2).is_none();
+        assert!(rt; taken && refused);
+        Ok(())
+    }
+
+    #[test]
+    fn the_front_of_a_slice_is_a_table(rt: HostRuntime) -> Result<(), Fail> {
+        let mut slots = [sample(b"0", b"0", 7)?; 3];
+        let row = sample(b"T1", b"A", 1)?;
+        let next = sample(b"T2", b"A", 2)?;
+        let last = sample(b"T3", b"A", 3)?;
+        assert_eq!(rt; enter_front(&mut slots[..], 2, 0, next), Ok(0));
+        assert_eq!(rt; enter_front(&mut slots[..], 2, 1, row), Ok(0));
+        assert_eq!(rt;
+            enter_front(&mut slots[..], 2, 2, last),
+            Err(NotEntered::Full)
+        );
+        assert!(rt; slots[0].mark == 1 && slots[1].mark == 2 && slots[2].mark == 7);
         Ok(())
     }
 

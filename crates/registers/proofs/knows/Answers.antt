@@ -5,6 +5,7 @@ use Rattle.std.proofs.Common.{is_ok}
 use Rattle.registers.proofs.knows.Goals as goal
 
 pub returns : goal.returns
-returns g c = λ register.
+returns g c =
+    let table = c.args.register.now in
     Decides-at c.is_ok.result (is_ok c.find.result) c.is_ok.ensures.value
-    (listed_among (text_of {A = g.row.A.Denot} {least = g.row.LEAST} {most = g.row.MOST} {m = g.A.Alphabet}) c.args.register.now c.args.code.now c.find.result c.find.ensures.law register.ascends)
+    (listed_among (text_of {A = g.row.A.Denot} {least = g.row.LEAST} {most = g.row.MOST} {m = g.A.Alphabet}) c.args.code.now table.rows.now table.used c.find.result c.find.ensures.law)

@@ -1,7 +1,6 @@
 use Rattle.std.proofs.Common.{map, of_calls, rules}
 use Rattle.std.proofs.lemmas.Fn.{always_returns_same}
-use Rattle.table.specs.Order.{Ascending}
-use Rattle.table.proofs.Searching.{found, searched}
+use Rattle.table.proofs.Searching.{found, searched, stands}
 use Rattle.table.proofs.order.find.Goals as goal
 
 pub returns : goal.returns
@@ -13,5 +12,5 @@ returns g c =
     let k = c.args.key.now in
     let r = c.binary_search_by.result in
     let search_is = c.binary_search_by.ensures.position (λ x. cmp (id x) k) (always_returns_same _ _ _ (λ a r f called. search (rules, of_calls))) in
-    let done = λ (up : Ascending cmp (map id xs)). found total (map id xs) k up r (searched total id xs k up r c.binary_search_by.ensures.bound search_is) in
-    record { within = c.binary_search_by.ensures.bound; value = λ up. (done up).0; law = λ up. (done up).1 }
+    let bound = c.binary_search_by.ensures.bound in
+    record { within = bound; stands = stands cmp id xs k r bound search_is; law = λ up. found total (map id xs) k up r (searched total id xs k up r bound search_is) }
