@@ -4,7 +4,7 @@ use Rattle.journal.specs.declared.escapes.WordError.{WordError}
 use Rattle.journal.specs.declared.escapes.WordError.TheVariants.{BadEscape as BadWord, OutOfMemory as WordOutOfMemory}
 use Rattle.recon.specs.Verbs.{taken_text, verb_text}
 use Rattle.recon.specs.declared.fault.Fault.{Fault}
-use Rattle.recon.specs.declared.fault.Fault.TheVariants.{NoVerb, UnknownVerb, WordCount, BadEscape, OutOfMemory}
+use Rattle.recon.specs.declared.fault.Fault.TheVariants.{NoVerb, UnknownVerb, WordCount, BadEscape, BadHex, OutOfMemory}
 
 abbrev pub fault_of : WordError → Fault
 fault_of (BadWord word) = BadEscape word
@@ -15,6 +15,7 @@ fault_text NoVerb = codes "no verb"
 fault_text (UnknownVerb verb) = codes "unknown verb " ++ string_bytes verb
 fault_text (WordCount verb given) = verb_text verb ++ (codes " takes " ++ (taken_text verb ++ (codes ", not " ++ decimal given)))
 fault_text (BadEscape text) = codes "bad escape in " ++ string_bytes text
+fault_text (BadHex text) = codes "bad hexadecimal in " ++ string_bytes text
 fault_text (OutOfMemory error) = codes "out of memory"
 
 -- a fact that holds if the line is no call, and not if memory ran out
@@ -23,4 +24,5 @@ IfNoCall NoVerb P = P
 IfNoCall (UnknownVerb verb) P = P
 IfNoCall (WordCount verb given) P = P
 IfNoCall (BadEscape text) P = P
+IfNoCall (BadHex text) P = P
 IfNoCall (OutOfMemory error) P = Unit {0}

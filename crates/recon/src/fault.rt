@@ -16,6 +16,7 @@ pub enum Fault {
     // how many words stood behind a verb that takes another number of them
     WordCount(Verb, usize),
     BadEscape(String),
+    BadHex(String),
     OutOfMemory(AllocError),
 }
 
@@ -51,6 +52,7 @@ impl fmt::Display for Fault {
                 write!(f, "{verb} takes {taken}, not {given}")
             }
             Fault::BadEscape(word) => write!(f, "bad escape in {word}"),
+            Fault::BadHex(word) => write!(f, "bad hexadecimal in {word}"),
             Fault::OutOfMemory(_) => write!(f, "out of memory"),
         }
     }

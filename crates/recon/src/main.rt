@@ -5,6 +5,7 @@ mod answers;
 mod compare;
 mod comparison;
 mod fault;
+mod hex_words;
 mod run;
 #[cfg(test)]
 mod tests;

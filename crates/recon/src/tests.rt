@@ -69,7 +69,14 @@ fn calls_are_answered(rt: HostRuntime) -> Result<(), Fail> {
         b" day\t2020-04-09",
         "day 2020-04-09 business next 2020-04-14 second 2020-04-15",
     )?;
-    is_answered(&rt, alloc, b"day 20200409", "day refused 3 bad field tag 8")
+    is_answered(&rt, alloc, b"day 20200409", "day refused 3 bad field tag 8")?;
+    is_answered(
+        &rt,
+        alloc,
+        b"slip 0100020C00022542",
+        "slip 1 fields\n  12 at 0 %25B",
+    )?;
+    is_answered(&rt, alloc, b"slip 00", "slip refused 1 torn slip")
 }
 
 #[test]
@@ -86,6 +93,9 @@ fn other_lines_are_told_what_is_wrong(rt: HostRuntime) -> Result<(), Fail> {
     )?;
     is_no_call(&rt, alloc, b"day", "day takes 1 word, not 0")?;
     is_no_call(&rt, alloc, b"day 2020-04-09 1", "day takes 1 word, not 2")?;
+    is_no_call(&rt, alloc, b"slip", "slip takes 1 word, not 0")?;
+    is_no_call(&rt, alloc, b"slip 0", "bad hexadecimal in 0")?;
+    is_no_call(&rt, alloc, b"slip 0x00%20", "bad hexadecimal in 0x00%20")?;
     is_no_call(&rt, alloc, b"price 1%2 1", "bad escape in 1%252")?;
     is_no_call(&rt, alloc, b"price 1 %G0", "bad escape in %25G0")
 }

@@ -9,6 +9,8 @@ pub enum Verb {
     Compare(AmountCheck),
     // what the calendar tells of a day
     Day,
+    // the fields of a slip
+    Slip,
 }
 
 // A word that names no verb.

@@ -17,6 +17,7 @@ impl<'a> TryFrom<&'a [u8]> for Verb {
             b"price" => Ok(Verb::Compare(AmountCheck::Price)),
             b"notional" => Ok(Verb::Compare(AmountCheck::Notional)),
             b"day" => Ok(Verb::Day),
+            b"slip" => Ok(Verb::Slip),
             _ => Err(UnknownVerb),
         }
     }
@@ -29,6 +30,7 @@ impl fmt::Display for Verb {
         match self {
             Verb::Compare(check) => write!(f, "{check}"),
             Verb::Day => write!(f, "day"),
+            Verb::Slip => write!(f, "slip"),
         }
     }
 }
@@ -40,7 +42,7 @@ impl Verb {
     {
         match self {
             Verb::Compare(_) => "2 words",
-            Verb::Day => "1 word",
+            Verb::Day | Verb::Slip => "1 word",
         }
     }
 }

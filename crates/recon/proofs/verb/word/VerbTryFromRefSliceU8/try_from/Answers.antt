@@ -11,3 +11,6 @@ returns-in-notional c = sym (ap verb_named (text_from_reads c.args.word.now (cod
 
 pub returns-in-day : goal.returns-in-day
 returns-in-day c = sym (ap verb_named (text_from_reads c.args.word.now (codes "day") (omega arith) (search rules)))
+
+pub returns-in-slip : goal.returns-in-slip
+returns-in-slip c = sym (ap verb_named (text_from_reads c.args.word.now (codes "slip") (omega arith) (search rules)))

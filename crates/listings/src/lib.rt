@@ -1,0 +1,4 @@
+// What stands in a slip, as lines of an answer.
+#![tactic(auto)]
+
+pub mod slips;

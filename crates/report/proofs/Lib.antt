@@ -1,0 +1,4 @@
+pub mod PartyKinds
+pub mod Missing
+pub mod NeedsMet
+pub mod InTurn

@@ -1,0 +1,4 @@
+pub mod Texts
+pub mod Judging
+pub mod Needs
+pub mod Values

@@ -1,0 +1,8 @@
+// A report: what the fields of a slip say.
+#![tactic(auto)]
+
+pub mod details;
+pub mod parties;
+mod presence;
+pub mod report;
+mod values;
