@@ -9,8 +9,9 @@ use Rattle.amounts.specs.Rates.{rate_worth}
 use Rattle.amounts.specs.Shortest.{shortest}
 
 pub record AmountLaws : Type 0 where
-  -- amounts of one worth have one representation
-  pub one_form : (a b : Amount) → worth a ≡ worth b → (a.negative ≡ b.negative) × (a.digits ≡ b.digits) × (a.places ≡ b.places)
+  -- amounts of one worth are one, and so are exchange rates
+  pub one_form : (a b : Amount) → worth a ≡ worth b → a ≡ b
+  pub rate_form : (r s : ExchangeRate) → rate_worth r ≡ rate_worth s → r ≡ s
   -- the test of equality is equality
   pub equality : (x y : ℤ) → Decides (same x y) (x ≡ y)
   -- which side comes first makes no difference

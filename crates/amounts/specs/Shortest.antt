@@ -1,5 +1,5 @@
--- The shortest text of an amount, and what a buffer holds after it is written there.
-use Rattle.std.specs.Prelude.{ℕ, ◌/◌, cond, List, [], ◌∷◌, ◌++◌, length, drop, ℤ, pos, Some, None, Option, ◌==◌, int_lt, nat_le, unsigned_abs}
+-- The shortest text of an amount.
+use Rattle.std.specs.Prelude.{ℕ, ◌/◌, cond, List, [], ◌∷◌, ◌++◌, ℤ, pos, ◌==◌, int_lt, unsigned_abs}
 use Rattle.texts.specs.Numerals.{numeral, padded}
 use Rattle.amounts.specs.declared.amount.Amount.{Amount}
 use Rattle.amounts.specs.Amounts.{worth}
@@ -22,11 +22,3 @@ shortest_text z = sign_text (int_lt z (pos 0)) ++ (numeral (unsigned_abs z / uni
 
 abbrev pub shortest : Amount → List ℕ
 shortest a = shortest_text (worth a)
-
--- a buffer that has room holds the text and, behind it, what stood there; one that has none stays as it was
-abbrev pub filled : List ℕ → List ℕ → List ℕ
-filled text buffer = cond (nat_le (length text) (length buffer)) (text ++ drop (length text) buffer) buffer
-
--- the length that was written, or nothing where there is no room
-abbrev pub answered : List ℕ → List ℕ → Option ℕ
-answered text buffer = cond (nat_le (length text) (length buffer)) (Some (length text)) None

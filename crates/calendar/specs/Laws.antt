@@ -3,6 +3,8 @@ use Rattle.std.specs.Prelude.{◌≡◌, ℕ, ◌+◌, ◌<◌, ◌≤◌, true,
 use Rattle.std.specs.declared.cmp.Ordering.TheVariants.{Less, Equal}
 use Rattle.std.specs.Ordering.{ordering_reverse}
 use Rattle.calendar.specs.Gregorian.{century, day_at, day_count, day_number, day_order, exists, month_at, weekday_at, year_at}
+use Rattle.calendar.specs.declared.date.Date.{Date}
+use Rattle.calendar.specs.Dates.{number}
 use Rattle.calendar.specs.Easter.{easter_sunday, full_moon}
 use Rattle.calendar.specs.Text.{date_of, date_text}
 
@@ -20,6 +22,8 @@ pub record CalendarLaws : Type 0 where
   pub order_flipped : (a b : ℕ) → day_order a b ≡ ordering_reverse (day_order b a)
   pub order_less : (a b : ℕ) → (day_order a b ≡ Less → a < b) × (a < b → day_order a b ≡ Less)
   pub order_equal : (a b : ℕ) → (day_order a b ≡ Equal → a ≡ b) × (a ≡ b → day_order a b ≡ Equal)
+  -- one number has one date
+  pub one_form : (a b : Date) → number a ≡ number b → a ≡ b
   -- reading and writing undo each other
   pub read_back : (n : ℕ) → n < day_count → date_of (date_text n) ≡ Some n
   pub written_back : (text : List ℕ) (n : ℕ) → date_of text ≡ Some n → text ≡ date_text n

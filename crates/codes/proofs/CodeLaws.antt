@@ -9,7 +9,10 @@ use Rattle.std.proofs.lemmas.Bool.{and_from, and_parts, le-leb, leb-true, lt-ltb
 use Rattle.codes.specs.Alphabets.{Letters}
 use Rattle.codes.specs.Codes.{text_of, text_order}
 use Rattle.codes.specs.Laws.{CodeForms, CodeLaws, IsCode}
-use Rattle.codes.specs.Rules.{code_of, ends_well, keeps, spelled}
+use Rattle.codes.specs.Rules.{ZeroFilled, code_of, ends_well, keeps, spelled, text_in}
+use Rattle.codes.specs.declared.code.Code.{Code}
+use Rattle.std.specs.Coded.{Coded-set, coded_ℕ, coded_bool, coded_list}
+use mathlib.Core.HLevel.{is_prop→PathP}
 use Rattle.codes.proofs.Ordered.{one_place}
 
 -- ---- the rule
@@ -64,8 +67,19 @@ laws = record {
   beginning = before_more;
 }
 
+-- one text has one code
+pub one_form : {A : _} {m : _} {least most : ℕ} (a b : Code A least most m) → text_of a ≡ text_of b → a ≡ b
+one_form {A} {m} {least} {most} a b e =
+    let f = one_place most a.bytes b.bytes a.filled b.filled e in
+    λ i. record {
+      bytes = f i;
+      alphabet = a.alphabet;
+      rule = is_prop→PathP (λ j. keeps m.letters least most (text_in (f j)) ≡ true) (λ j. hlevel (Coded-set coded_bool)) a.rule b.rule i;
+      filled = is_prop→PathP (λ j. ZeroFilled most (f j)) (λ j. hlevel (Coded-set (coded_list coded_ℕ))) a.filled b.filled i;
+    }
+
 pub forms : {A : _} {m : _} → CodeForms A m
 forms {A} {m} = record {
-  one_form = λ {least} {most} a b e. one_place most a.bytes b.bytes a.filled b.filled e;
+  one_form = one_form;
   reads_back = λ {least} {most} a. reads m.letters least most (text_of a) a.rule;
 }

@@ -31,7 +31,7 @@ pub record CodeLaws : Type 0 where
 
 -- how the codes of an alphabet stand for texts
 pub record CodeForms (A : _) (m : _) : Type 0 where
-  -- codes of one text have one representation
-  pub one_form : {least most : ℕ} (a b : Code A least most m) → text_of a ≡ text_of b → a.bytes ≡ b.bytes
+  -- codes of one text are one
+  pub one_form : {least most : ℕ} (a b : Code A least most m) → text_of a ≡ text_of b → a ≡ b
   -- the text of a code reads back
   pub reads_back : {least most : ℕ} (a : Code A least most m) → code_of m.letters least most (text_of a) ≡ Some (text_of a)

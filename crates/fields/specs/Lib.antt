@@ -1,3 +1,4 @@
 pub mod Letters
 pub mod Fields
 pub mod Parties
+pub mod Laws

@@ -2,5 +2,6 @@
 #![tactic(auto)]
 
 pub mod field;
+pub mod laws;
 pub mod letter;
 pub mod party;

@@ -1,9 +1,10 @@
 // Writes an amount in its shortest form.
 ghost use Rattle.std.specs.Prelude.{◌≡◌, ℕ, ◌+◌, ◌≤◌, List, length, Some};
+ghost use Rattle.texts.specs.Buffers.{answered, filled};
 ghost use Rattle.texts.specs.Numerals.{padded};
 ghost use Rattle.amounts.specs.Amounts.{worth};
 ghost use Rattle.amounts.specs.Decimal.{amount_of};
-ghost use Rattle.amounts.specs.Shortest.{answered, filled, shortest};
+ghost use Rattle.amounts.specs.Shortest.{shortest};
 ghost use Rattle.amounts.specs.Spelling.{dot_text};
 
 use super::Amount;

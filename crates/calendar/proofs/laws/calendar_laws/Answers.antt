@@ -4,6 +4,7 @@ use Rattle.std.proofs.lemmas.Bool.Decides.{nat_tests}
 use Rattle.calendar.specs.Gregorian.{day_order, weekday_at}
 use Rattle.calendar.specs.Easter.{easter_sunday, full_moon}
 use Rattle.calendar.proofs.Civil.{civil_back, civil_of, date_names, date_read, one_text, text_names}
+use Rattle.calendar.proofs.Form.{one_form}
 use Rattle.calendar.proofs.Parts.{century_days, number_below}
 use Rattle.calendar.proofs.laws.calendar_laws.Goals as goal
 
@@ -29,6 +30,7 @@ returns c =
       order_flipped = λ a b. nat_cmp_total.antisymm a b;
       order_less = less;
       order_equal = equal;
+      one_form = one_form;
       read_back = λ n h. date_read _ n (text_names n h);
       written_back = λ text n e. one_text text n (date_names text n e);
     }

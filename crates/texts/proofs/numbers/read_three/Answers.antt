@@ -1,5 +1,4 @@
-use Rattle.std.proofs.Common.{◌≡◌, None, ◌∙◌, arith}
-use Rattle.texts.specs.ThreeNumbers.{three_of}
+use Rattle.std.proofs.Common.{◌∙◌, arith}
 use Rattle.texts.proofs.ThreeNumbers.{no_first, no_length, no_mark, no_second, no_second_mark, no_third, three_yes}
 use Rattle.texts.proofs.numbers.read_three.Goals as goal
 use Rattle.texts.proofs.numbers.read_three.Goals.{then-text-digits-via-then-text-digits, then-text-digits-via-else-text-digits+then-text-digits-2, then-text-digits-via-else-text-digits+else-text-digits-2+then-text-digits-3}

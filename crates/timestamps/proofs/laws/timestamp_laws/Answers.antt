@@ -3,6 +3,7 @@ use Rattle.std.proofs.Math.Bool.{and_comm}
 use Rattle.std.proofs.lemmas.Bool.Decides.{nat_tests}
 use Rattle.timestamps.specs.Checks.{apart, named_off_exchange, same_date, within_an_hour}
 use Rattle.timestamps.specs.Timestamps.{instant}
+use Rattle.timestamps.proofs.Form.{one_form}
 use Rattle.timestamps.proofs.Instants.{instant_names, instant_read, one_stamp, stamp_names}
 use Rattle.timestamps.proofs.laws.timestamp_laws.Goals as goal
 
@@ -21,7 +22,7 @@ returns c =
     record {
       read_back = λ t. instant_read _ _ (stamp_names (instant t) (omega (arith, t.time.within, t.date.within)));
       written_back = λ text i e. one_stamp text i (instant_names text i e);
-      one_form = λ a b e. (omega (arith, a.time.within, b.time.within), omega (arith, a.time.within, b.time.within));
+      one_form = one_form;
       date_exchanged = date_exchanged;
       time_exchanged = time_exchanged;
     }
