@@ -1,5 +1,5 @@
 -- What is told of a slip.
-use Rattle.std.specs.Prelude.{ℕ, List, [], ◌∷◌, ◌++◌, length, map, codes, decimal, Some, None, Option}
+use Rattle.std.specs.Prelude.{ℕ, List, ◌++◌, length, map, codes, decimal, Some, None, Option}
 use Rattle.std.specs.List.{concat}
 use Rattle.journal.specs.Escapes.{escaped}
 use Rattle.refusals.specs.Words.{RefusalParts, refusal_text}

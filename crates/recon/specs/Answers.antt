@@ -7,12 +7,14 @@ use Rattle.hex.specs.Hex.{decode_of}
 use Rattle.hex.specs.declared.error.FromHexError.{FromHexError}
 use Rattle.journal.specs.Lines.{first_word}
 use Rattle.journal.specs.Words.{decoded_all, words_of}
+use Rattle.listings.specs.Rewritten.{rewritten_text}
 use Rattle.listings.specs.Slips.{slip_text}
 use Rattle.slip.specs.Layout.{fields_in}
+use Rattle.slip_words.specs.Spelled.{slip_spelled}
 use Rattle.recon.specs.Outcomes.{pair_text}
 use Rattle.recon.specs.Verbs.{verb_named}
 use Rattle.recon.specs.declared.verb.Verb.{Verb}
-use Rattle.recon.specs.declared.verb.Verb.TheVariants.{Compare, Day, Slip}
+use Rattle.recon.specs.declared.verb.Verb.TheVariants.{Compare, Day, Slip, Write}
 
 -- nothing, a text, or that the line is no call, whose words are free
 pub data Said : Type 0 where
@@ -38,11 +40,17 @@ abbrev pub slip_said : Result (List ℕ) FromHexError → Said
 slip_said (Ok bytes) = text (codes "slip " ++ slip_text (fields_in bytes))
 slip_said (Err e) = no_call
 
+-- the report of the slip that words spell, as it is written again; words that spell no slip are no call
+abbrev pub write_said : Option (List ℕ) → Said
+write_said None = no_call
+write_said (Some bytes) = text (codes "write " ++ rewritten_text bytes)
+
 -- the answer to a verb and the words behind it; a line with too few words or too many is no call
 abbrev pub verb_answer : Verb → List (List ℕ) → Said
 verb_answer (Compare check) (a ∷ b ∷ []) = text (pair_text check a b)
 verb_answer Day (word ∷ []) = text (day_text word)
 verb_answer Slip (word ∷ []) = slip_said (decode_of word)
+verb_answer Write words = write_said (slip_spelled words)
 verb_answer verb words = no_call
 
 abbrev pub named_answer : Option Verb → List (List ℕ) → Said

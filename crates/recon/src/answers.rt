@@ -2,7 +2,7 @@
 ghost use Rattle.std.specs.Prelude.{◌≡◌, map, IfOk, IfErr, Some, vec_items, string_bytes};
 ghost use Rattle.recon.specs.Answers.{answer_of, call_answer, no_call, said, text, verb_answer};
 ghost use Rattle.recon.specs.Faults.{IfNoCall};
-ghost use Rattle.recon.specs.declared.verb.Verb.TheVariants.{Compare, Day, Slip};
+ghost use Rattle.recon.specs.declared.verb.Verb.TheVariants.{Compare, Day, Slip, Write};
 
 use crate::compare::compare_amounts;
 use crate::comparison::AmountCheck;
@@ -13,7 +13,9 @@ use almanac::days::look_up;
 use journal::escapes::escape;
 use journal::lines::first_word;
 use journal::words::read_words;
+use listings::rewriting::rewrite;
 use listings::slips::list_slip;
+use slip_words::spelling::spell_slip;
 use std::alloc::Global;
 
 // The answer to a pair of amounts.
@@ -57,6 +59,16 @@ fn slip_answer(alloc: Global, words: &[Vec<u8>]) -> Result<String, Fault>
     Ok(format!(in alloc; "slip {listed}")?)
 }
 
+// The answer to the words of a slip.
+fn write_answer(alloc: Global, words: &[Vec<u8>]) -> Result<String, Fault>
+    ensures answered { IfOk result (λ s. text (string_bytes s) ≡ verb_answer Write (map vec_items words.now)) }
+    ensures fault { IfErr result (λ f. IfNoCall f (no_call ≡ verb_answer Write (map vec_items words.now))) }
+{
+    let bytes = spell_slip(alloc, words)?;
+    let written = rewrite(alloc, bytes.as_slice())?;
+    Ok(format!(in alloc; "write {written}")?)
+}
+
 // The answer to a verb and the words behind it.
 fn verb_answer(alloc: Global, verb: Verb, words: &[Vec<u8>]) -> Result<String, Fault>
     ensures answered { IfOk result (λ s. text (string_bytes s) ≡ verb_answer verb (map vec_items words.now)) }
@@ -66,6 +78,7 @@ fn verb_answer(alloc: Global, verb: Verb, words: &[Vec<u8>]) -> Result<String, F
         Verb::Compare(check) => pair_answer(alloc, check, words),
         Verb::Day => day_answer(alloc, words),
         Verb::Slip => slip_answer(alloc, words),
+        Verb::Write => write_answer(alloc, words),
     }
 }
 

@@ -1,10 +1,11 @@
 // What keeps a line of a journal from being answered.
 ghost use Rattle.std.specs.Prelude.{◌≡◌, alloc_error, Some};
-ghost use Rattle.recon.specs.Faults.{fault_of, fault_text};
+ghost use Rattle.recon.specs.Faults.{fault_of, fault_of_words, fault_text};
 ghost use Rattle.recon.specs.declared.fault.Fault.TheVariants.{OutOfMemory};
 
 use crate::verb::Verb;
 use journal::escapes::WordError;
+use slip_words::fault::SlipWordError;
 use std::alloc::AllocError;
 use std::fmt;
 
@@ -17,6 +18,8 @@ pub enum Fault {
     WordCount(Verb, usize),
     BadEscape(String),
     BadHex(String),
+    // words that spell no slip
+    NoSlip(SlipWordError),
     OutOfMemory(AllocError),
 }
 
@@ -40,6 +43,17 @@ impl From<WordError> for Fault {
     }
 }
 
+impl From<SlipWordError> for Fault {
+    ghost from_gives = { λ e f. f ≡ fault_of_words e };
+
+    fn from(error: SlipWordError) -> Fault {
+        match error {
+            SlipWordError::OutOfMemory(error) => Fault::OutOfMemory(error),
+            error => Fault::NoSlip(error),
+        }
+    }
+}
+
 impl fmt::Display for Fault {
     ghost output = { λ f. Some (fault_text f) };
 
@@ -53,6 +67,7 @@ impl fmt::Display for Fault {
             }
             Fault::BadEscape(word) => write!(f, "bad escape in {word}"),
             Fault::BadHex(word) => write!(f, "bad hexadecimal in {word}"),
+            Fault::NoSlip(error) => write!(f, "{error}"),
             Fault::OutOfMemory(_) => write!(f, "out of memory"),
         }
     }

@@ -76,7 +76,15 @@ fn calls_are_answered(rt: HostRuntime) -> Result<(), Fail> {
         b"slip 0100020C00022542",
         "slip 1 fields\n  12 at 0 %25B",
     )?;
-    is_answered(&rt, alloc, b"slip 00", "slip refused 1 torn slip")
+    is_answered(&rt, alloc, b"slip 00", "slip refused 1 torn slip")?;
+    is_answered(
+        &rt,
+        alloc,
+        b"write 001=T1 3=L",
+        "write refused 2 field missing tag 2",
+    )?;
+    is_answered(&rt, alloc, b"write 255=A", "write refused 1 torn slip")?;
+    is_answered(&rt, alloc, b"write 0100", "write refused 1 torn slip")
 }
 
 #[test]
@@ -96,6 +104,10 @@ fn other_lines_are_told_what_is_wrong(rt: HostRuntime) -> Result<(), Fail> {
     is_no_call(&rt, alloc, b"slip", "slip takes 1 word, not 0")?;
     is_no_call(&rt, alloc, b"slip 0", "bad hexadecimal in 0")?;
     is_no_call(&rt, alloc, b"slip 0x00%20", "bad hexadecimal in 0x00%20")?;
+    is_no_call(&rt, alloc, b"write", "no word for a slip")?;
+    is_no_call(&rt, alloc, b"write 010", "bad hexadecimal in 010")?;
+    is_no_call(&rt, alloc, b"write 256=A", "no TAG=TEXT in 256=A")?;
+    is_no_call(&rt, alloc, b"write 1=A 00", "no TAG=TEXT in 00")?;
     is_no_call(&rt, alloc, b"price 1%2 1", "bad escape in 1%252")?;
     is_no_call(&rt, alloc, b"price 1 %G0", "bad escape in %25G0")
 }

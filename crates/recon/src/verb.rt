@@ -11,6 +11,8 @@ pub enum Verb {
     Day,
     // the fields of a slip
     Slip,
+    // a report, as it is written again
+    Write,
 }
 
 // A word that names no verb.

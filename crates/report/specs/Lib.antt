@@ -2,3 +2,4 @@ pub mod Texts
 pub mod Judging
 pub mod Needs
 pub mod Values
+pub mod Laws

@@ -1,4 +1,5 @@
 // The details of a trade or position.
+pub mod accessors;
 pub mod read;
 
 use amounts::amount::Amount;

@@ -2,6 +2,7 @@
 #![tactic(auto)]
 
 pub mod details;
+pub mod laws;
 pub mod parties;
 mod presence;
 pub mod report;

@@ -1,48 +1,18 @@
 -- A slip that was read is laid out as one, and what is laid out as a slip is read.
-use Rattle.std.proofs.Common.{◌≡◌, ℕ, zero, suc, ◌+◌, ◌-◌, ◌*◌, ◌^◌, ◌<◌, ◌≤◌, Bool, true, false, if◌then◌else◌, ◌&&◌, ◌==◌, nat_le, List, [], ◌∷◌, ◌++◌, length, take, drop, get_or, Some, None, Option, refl, ap, sym, ◌∙◌, arith, length-append, length-drop, length-take, take-append-drop, subst}
+use Rattle.std.proofs.Common.{◌≡◌, ℕ, zero, suc, ◌+◌, ◌-◌, ◌*◌, ◌^◌, ◌<◌, ◌≤◌, true, if◌then◌else◌, ◌&&◌, ◌==◌, nat_le, List, [], ◌∷◌, ◌++◌, length, map, take, drop, get_or, Some, None, Option, refl, ap, sym, ◌∙◌, arith, length-append, length-drop, take-append-drop, subst}
 use Rattle.std.specs.Int.{w16, from_be_bytes, to_be_bytes}
+use Rattle.std.specs.List.{concat}
 use Rattle.std.specs.Option.{option_map}
 use Rattle.std.proofs.lemmas.Bool.Decides.{nat_tests}
-use Rattle.std.proofs.lemmas.List.{drop-drop, length-map, drop_at, take_at, nil_from_length, get_or-drop, length-take-le, drop_all}
+use Rattle.std.proofs.lemmas.List.{drop-drop, length-map, drop_at, take_at, nil_from_length, get_or-drop, length-take-le}
 use Rattle.std.proofs.lemmas.Nat.{be_bytes_2, from_be_bytes-to_be_bytes_2}
+use Rattle.std.proofs.lemmas.Simd.{map-map}
+use Rattle.slip.proofs.Cutting.{Cut, cut, may, put, taken}
 use Rattle.slip.specs.Layout.{FieldParts, InOrder, IsSlip, Reads, end_of, ends_of, field_at, fields_behind, fields_from, fields_in, laid_out, may_follow, pairs, tags_of, texts_of}
 
 -- each is a byte
-abbrev Bytes : List ℕ → Type 0
+abbrev pub Bytes : List ℕ → Type 0
 Bytes bytes = (k : ℕ) → get_or bytes k 0 < 256
-
--- what stands behind a test stands there if the test holds
-taken : {A : Type 0} (b : Bool) (o : Option A) (y : A) → (if b then o else None) ≡ Some y → (b ≡ true) × (o ≡ Some y)
-taken true o y e = (refl, e)
-taken false o y e = absurd (cc)
-
--- what was mapped was there
-mapped : {A B : Type 0} (f : A → B) (o : Option A) (y : B) → option_map f o ≡ Some y → (x : A) × (o ≡ Some x) × (f x ≡ y)
-mapped f None y e = absurd (cc)
-mapped f (Some x) y e = (x, refl, cc)
-
--- what it means that a field may follow
-follows : (size last place tag end : ℕ) → may_follow size last place tag end ≡ true → (last < tag) × (tag ≤ 25) × (place < end) × (end ≤ size)
-follows size last place tag end e = grind (arith, nat_tests)
-
--- when a field may follow
-may : (size last place tag end : ℕ) → last < tag → tag ≤ 25 → place < end → end ≤ size → may_follow size last place tag end ≡ true
-may size last place tag end a b c d = grind (arith, nat_tests)
-
--- fields that tags and ends cut from a text stand in order, and give the tags, the ends and the text back
-record Cut (text : List ℕ) (last place : ℕ) (tags flat : List ℕ) (fields : List FieldParts) : Type 0 where
-  in_order : InOrder last place fields
-  tags_back : tags_of fields ≡ tags
-  ends_back : ends_of fields ≡ flat
-  texts_back : texts_of fields ≡ drop place text
-
--- a field ends where it was cut
-end_back : (text : List ℕ) (place tag end : ℕ) → place < end → end ≤ length text → end_of (field_at text place tag end) ≡ end
-end_back text place tag end a b = simp (length-take, length-drop) (omega arith)
-
--- a text from a place on is its piece up to an end, and the text from there on
-piece_back : (text : List ℕ) (place end : ℕ) → place < end → take (end - place) (drop place text) ++ drop end text ≡ drop place text
-piece_back text place end a = ap (λ n. take (end - place) (drop place text) ++ drop n text) (let e : end ≡ place + (end - place) = omega arith in e) ∙ ap (λ xs. take (end - place) (drop place text) ++ xs) (sym (drop-drop (end - place) place text)) ∙ take-append-drop (end - place) (drop place text)
 
 -- what stands in front of a place in bytes is bytes
 bytes_front : (n : ℕ) (bytes : List ℕ) → Bytes bytes → Bytes (take n bytes)
@@ -59,39 +29,30 @@ bytes_behind bytes n b k = rw get_or-drop (b (n + k))
 two_back : (flat : List ℕ) → 2 ≤ length flat → Bytes flat → to_be_bytes w16 (from_be_bytes w16 (take 2 flat)) ≡ take 2 flat
 two_back flat l b = be_bytes_2 (take 2 flat) _ (length-take-le 2 flat l) (bytes_front 2 flat b) refl
 
--- a field in front of fields that were cut
-cut_more : (text : List ℕ) (last place tag end : ℕ) (tags flat : List ℕ) (rest : List FieldParts) → (last < tag) × (tag ≤ 25) × (place < end) × (end ≤ length text) → to_be_bytes w16 end ≡ take 2 flat → Cut text tag end tags (drop 2 flat) rest → Cut text last place (tag ∷ tags) flat (field_at text place tag end ∷ rest)
-cut_more text last place tag end tags flat rest m e c =
-    let back = end_back text place tag end m.2 m.3 in
-    record {
-      in_order = (m.0, m.1, refl, omega (arith, back), subst (λ n. InOrder tag n rest) (sym back) c.in_order);
-      tags_back = ap (λ xs. tag ∷ xs) c.tags_back;
-      ends_back = ap (λ n. to_be_bytes w16 n ++ ends_of rest) back ∙ ap (λ xs. xs ++ ends_of rest) e ∙ ap (λ xs. take 2 flat ++ xs) c.ends_back ∙ take-append-drop 2 flat;
-      texts_back = ap (λ xs. take (end - place) (drop place text) ++ xs) c.texts_back ∙ piece_back text place end m.2;
-    }
+-- ends of two bytes each are the bytes of their numbers
+pub ends_kept : (ends : List (List ℕ)) → ((k : ℕ) → k < length ends → length (get_or ends k []) ≡ 2) → Bytes (concat ends) → concat (map (λ e. to_be_bytes w16 (from_be_bytes w16 e)) ends) ≡ concat ends
+ends_kept [] two b = refl
+ends_kept (e ∷ ends) two b =
+    let l : length e ≡ 2 = two 0 (omega arith) in
+    let front : take 2 (e ++ concat ends) ≡ e = take_at e (concat ends) 2 l in
+    let here : to_be_bytes w16 (from_be_bytes w16 e) ≡ e = subst (λ xs. to_be_bytes w16 (from_be_bytes w16 xs) ≡ xs) front (two_back (e ++ concat ends) (simp length-append (omega arith)) b) in
+    let behind : Bytes (concat ends) = subst Bytes (drop_at e (concat ends) 2 l) (bytes_behind (e ++ concat ends) 2 b) in
+    ap (λ xs. xs ++ concat (map (λ e. to_be_bytes w16 (from_be_bytes w16 e)) ends)) here ∙ ap (λ xs. e ++ xs) (ends_kept ends (λ k h. two (suc k) (omega arith)) behind)
 
--- no fields are cut only where the text has ended
-cut_none : (text : List ℕ) (place : ℕ) (fields : List FieldParts) → (if place == length text then Some [] else None) ≡ Some fields → (fields ≡ []) × (length text ≤ place)
-cut_none text place fields e =
-    let t = taken (place == length text) (Some []) fields e in
-    (cc, grind (arith, nat_tests))
+-- bytes are those of the numbers of their pairs
+pairs_kept : (n : ℕ) (flat : List ℕ) → length flat ≡ 2 * n → Bytes flat → concat (map (λ e. to_be_bytes w16 (from_be_bytes w16 e)) (pairs n flat)) ≡ flat
+pairs_kept zero flat l b = sym (nil_from_length flat (omega arith))
+pairs_kept (suc n) flat l b =
+    let here = two_back flat (omega arith) b in
+    let rest = pairs_kept n (drop 2 flat) (simp length-drop (omega arith)) (bytes_behind flat 2 b) in
+    ap (λ xs. xs ++ concat (map (λ e. to_be_bytes w16 (from_be_bytes w16 e)) (pairs n (drop 2 flat)))) here ∙ ap (λ xs. take 2 flat ++ xs) rest ∙ take-append-drop 2 flat
 
--- what tags and ends cut
-cut : (text : List ℕ) (last place : ℕ) (tags flat : List ℕ) (fields : List FieldParts) → length flat ≡ 2 * length tags → Bytes flat → fields_from text last place tags (pairs (length tags) flat) ≡ Some fields → Cut text last place tags flat fields
-cut text last place [] flat fields l b e =
-    let t = cut_none text place fields e in
-    subst (Cut text last place [] flat) (sym t.0) (record { in_order = tt; tags_back = refl; ends_back = sym (nil_from_length flat l); texts_back = sym (drop_all place text t.1) })
-cut text last place (tag ∷ tags) flat fields l b e =
-    let end : ℕ = from_be_bytes w16 (take 2 flat) in
-    let t = taken (may_follow (length text) last place tag end) _ fields e in
-    let l2 : 2 ≤ length flat = omega arith in
-    let left : length (drop 2 flat) ≡ 2 * length tags = simp length-drop (omega arith) in
-    let m = mapped _ _ fields t.1 in
-    let c : Cut text tag end tags (drop 2 flat) m.0 = cut text tag end tags (drop 2 flat) m.0 left (bytes_behind flat 2 b) m.1 in
-    subst (Cut text last place (tag ∷ tags) flat) m.2 (cut_more text last place tag end tags flat m.0 (follows _ _ _ _ _ t.0) (two_back flat l2 b) c)
+-- the ends of fields that were cut are those that they were cut by
+pub ends_told : (fields : List FieldParts) (ends : List (List ℕ)) → map end_of fields ≡ map (from_be_bytes w16) ends → ends_of fields ≡ concat (map (λ e. to_be_bytes w16 (from_be_bytes w16 e)) ends)
+ends_told fields ends e = ap concat (sym (map-map (to_be_bytes w16) end_of fields) ∙ ap (map (to_be_bytes w16)) e ∙ map-map (to_be_bytes w16) (from_be_bytes w16) ends)
 
 -- tags that rise above the last one to 25 at most are no more than the numbers between
-few : (last place : ℕ) (fields : List FieldParts) → last ≤ 25 → InOrder last place fields → length fields + last ≤ 25
+pub few : (last place : ℕ) (fields : List FieldParts) → last ≤ 25 → InOrder last place fields → length fields + last ≤ 25
 few last place [] h o = omega arith
 few last place (f ∷ fields) h o = omega (arith, few f.tag (end_of f) fields o.1 o.4)
 
@@ -101,10 +62,6 @@ field_again text rest f e =
     let n : end_of f - f.place ≡ length f.text = omega arith in
     let t : take (end_of f - f.place) (drop f.place text) ≡ f.text = rw (n, ← e) (take_at f.text rest (length f.text) refl) in
     ap (λ xs. record { tag = f.tag; place = f.place; text = xs }) t
-
--- a field that may follow, in front of the fields that are cut behind it
-put : (text tags : List ℕ) (ends : List (List ℕ)) (last place end : ℕ) (f : FieldParts) (fields : List FieldParts) → may_follow (length text) last place f.tag end ≡ true → field_at text place f.tag end ≡ f → fields_from text f.tag end tags ends ≡ Some fields → (if may_follow (length text) last place f.tag end then option_map (λ rest. field_at text place f.tag end ∷ rest) (fields_from text f.tag end tags ends) else None) ≡ Some (f ∷ fields)
-put text tags ends last place end f fields m a r = rw (m, r) (ap (λ x. Some (x ∷ fields)) a)
 
 -- the fields that stand in order in a text are cut from it by their tags and their ends
 cut_again : (text : List ℕ) (last place : ℕ) (fields : List FieldParts) → InOrder last place fields → place ≤ length text → length text < 2 ^ 16 → texts_of fields ≡ drop place text → fields_from text last place (tags_of fields) (pairs (length fields) (ends_of fields)) ≡ Some fields
@@ -124,7 +81,7 @@ cut_again text last place (f ∷ fields) o p l e =
     (put text (tags_of fields) ends last place end f fields (may _ _ _ _ _ o.0 o.1 (omega (arith, o.2, o.3)) fits) here again)
 
 -- ends are two bytes each
-length-ends : (fields : List FieldParts) → length (ends_of fields) ≡ 2 * length fields
+pub length-ends : (fields : List FieldParts) → length (ends_of fields) ≡ 2 * length fields
 length-ends [] = refl
 length-ends (f ∷ fields) = omega (arith, length-ends fields)
 
@@ -166,11 +123,12 @@ sound (n ∷ high ∷ low ∷ rest) fields b e =
     let b_rest : Bytes rest = λ k. b (suc (suc (suc k))) in
     let b_flat : Bytes flat = bytes_front (2 * n) tail (bytes_behind rest n b_rest) in
     let l_flat : length flat ≡ 2 * n = length-take-le (2 * n) tail (omega (arith, length-drop n rest)) in
-    let c : Cut text 0 0 tags flat fields = cut text 0 0 tags flat fields (rw many l_flat) b_flat (subst (λ j. fields_from text 0 0 tags (pairs j flat) ≡ Some fields) (sym many) k.1) in
+    let c : Cut text 0 0 tags (pairs n flat) fields = cut text 0 0 tags (pairs n flat) fields k.1 in
+    let ends : ends_of fields ≡ flat = ends_told fields (pairs n flat) c.ends_back ∙ pairs_kept n flat l_flat b_flat in
     let as_many : length fields ≡ n = omega (arith, length-map fields (λ f. f.tag), ap length c.tags_back, many) in
     let size : length (texts_of fields) ≡ t = omega (arith, ap length c.texts_back, length-drop (2 * n) tail, length-drop n rest, m.2) in
     let two : to_be_bytes w16 t ≡ high ∷ low ∷ [] = two_back (high ∷ low ∷ rest) (omega arith) (λ k. b (suc k)) in
-    let behind : tags_of fields ++ (ends_of fields ++ texts_of fields) ≡ rest = rw (c.tags_back, c.ends_back, c.texts_back, take-append-drop (2 * n) tail) (take-append-drop n rest) in
+    let behind : tags_of fields ++ (ends_of fields ++ texts_of fields) ≡ rest = rw (c.tags_back, ends, c.texts_back, take-append-drop (2 * n) tail) (take-append-drop n rest) in
     let told : List ℕ = tags_of fields ++ (ends_of fields ++ texts_of fields) in
     let sizes : to_be_bytes w16 (length (texts_of fields)) ≡ high ∷ low ∷ [] = ap (to_be_bytes w16) size ∙ two in
     let laid : laid_out fields ≡ n ∷ high ∷ low ∷ rest = ap (λ j. j ∷ (to_be_bytes w16 (length (texts_of fields)) ++ told)) as_many ∙ ap (λ xs. n ∷ (xs ++ told)) sizes ∙ ap (λ xs. n ∷ high ∷ low ∷ xs) behind in

@@ -1,2 +1,4 @@
 pub mod Cutting
 pub mod Laid
+pub mod Written
+pub mod Drafting

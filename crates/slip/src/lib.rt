@@ -2,15 +2,30 @@
 #![tactic(auto)]
 
 mod check;
+pub mod draft;
 pub mod field;
 pub mod slip;
 
 #[cfg(test)]
 mod tests {
+    use crate::draft::Draft;
     use crate::slip::Slip;
     use refusals::tag::Tag;
     use std::alloc::{AllocError, Global};
     use std::test::Fail;
+
+    // An action and a price.
+    const PRICED: [u8; 14] = [2, 0, 5, 6, 18, 0, 1, 0, 5, b'N', b'1', b'2', b'.', b'5'];
+
+    // Fields put one after the other, and whether each is taken.
+    const PUT: [(Tag, &[u8], bool); 6] = [
+        (Tag::Action, b"", false),
+        (Tag::Action, b"N", true),
+        (Tag::Action, b"N", false),
+        (Tag::TradeId, b"A", false),
+        (Tag::Price, b"12.5", true),
+        (Tag::Venue, b"X", false),
+    ];
 
     // Fields with the tags from 1 on, each with one byte of text, its tag.
     fn ladder(heap: Global, count: u8) -> Result<Vec<u8>, AllocError> {
@@ -89,8 +104,7 @@ mod tests {
 
     #[test]
     fn fields_are_told_with_their_places(rt: HostRuntime) -> Result<(), Fail> {
-        let bytes = [2, 0, 5, 6, 18, 0, 1, 0, 5, b'N', b'1', b'2', b'.', b'5'];
-        let Ok(slip) = Slip::read(&bytes) else {
+        let Ok(slip) = Slip::read(&PRICED) else {
             return Err(Fail::new("not read"));
         };
         let told: [(Tag, usize, &[u8]); 2] = [(Tag::Action, 0, b"N"), (Tag::Price, 1, b"12.5")];
@@ -130,6 +144,46 @@ mod tests {
             return Err(Fail::new("not read"));
         };
         assert!(rt; slip.fields().count() == 0);
+        Ok(())
+    }
+
+    #[test]
+    fn a_slip_is_written_as_it_was_read(rt: HostRuntime) -> Result<(), Fail> {
+        let Ok(slip) = Slip::read(&PRICED) else {
+            return Err(Fail::new("not read"));
+        };
+        let mut out = [7; 16];
+        let len = slip.write(&mut out);
+        assert!(rt; len == Some(14) && out.starts_with(&PRICED) && out.ends_with(&[7, 7]));
+        let mut short = [7; 13];
+        let len = slip.write(&mut short);
+        assert!(rt; len.is_none() && short == [7; 13]);
+        Ok(())
+    }
+
+    #[test]
+    fn a_draft_takes_fields_by_rising_tags(rt: HostRuntime) -> Result<(), Fail> {
+        let mut draft = Draft::new();
+        for (tag, text, is_taken) in &PUT {
+            let taken = draft.push(*tag, text).is_ok();
+            assert!(rt; taken == *is_taken, "tag {tag}");
+        }
+        let mut out = [0; 14];
+        let len = draft.slip().write(&mut out);
+        assert!(rt; len == Some(14) && out == PRICED);
+        Ok(())
+    }
+
+    #[test]
+    fn a_draft_has_room_for_512_bytes(rt: HostRuntime) -> Result<(), Fail> {
+        let long = [b'X'; 512];
+        let mut draft = Draft::new();
+        let first = draft.push(Tag::TradeId, b"A").is_ok();
+        let over = draft.push(Tag::Venue, &long).is_err();
+        let full = draft.push(Tag::Venue, &long[1..]).is_ok();
+        let more = draft.push(Tag::Price, b"1").is_err();
+        assert!(rt; first && over && full && more);
+        assert!(rt; draft.slip().field_count() == 2);
         Ok(())
     }
 }

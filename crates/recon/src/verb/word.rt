@@ -18,6 +18,7 @@ impl<'a> TryFrom<&'a [u8]> for Verb {
             b"notional" => Ok(Verb::Compare(AmountCheck::Notional)),
             b"day" => Ok(Verb::Day),
             b"slip" => Ok(Verb::Slip),
+            b"write" => Ok(Verb::Write),
             _ => Err(UnknownVerb),
         }
     }
@@ -31,6 +32,7 @@ impl fmt::Display for Verb {
             Verb::Compare(check) => write!(f, "{check}"),
             Verb::Day => write!(f, "day"),
             Verb::Slip => write!(f, "slip"),
+            Verb::Write => write!(f, "write"),
         }
     }
 }
@@ -43,6 +45,7 @@ impl Verb {
         match self {
             Verb::Compare(_) => "2 words",
             Verb::Day | Verb::Slip => "1 word",
+            Verb::Write => "the words of a slip",
         }
     }
 }

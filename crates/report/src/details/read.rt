@@ -17,7 +17,7 @@ use slip::slip::Slip;
 impl Details {
     // The details that a slip says; the first bad one of them is refused.
     #[tactic(auto, unfolding(crate::specs::Judging::detail_tags))]
-    pub fn read(slip: &Slip) -> Result<Details, Refusal>
+    pub(crate) fn read(slip: &Slip) -> Result<Details, Refusal>
         ensures value { IfOk result (TellsDetails (text_in (fields_of slip.now))) }
         ensures refusal { result_err result ≡ option_map BadField (first_bad (text_in (fields_of slip.now)) detail_tags) }
     {

@@ -33,7 +33,7 @@ impl Parties {
     // The parties that a slip says; the first bad field of theirs is refused. All are there in a slip that has what every
     // report needs.
     #[tactic(auto, unfolding(crate::specs::Judging::party_tags))]
-    pub fn read(slip: &Slip) -> Result<Parties, Refusal>
+    pub(crate) fn read(slip: &Slip) -> Result<Parties, Refusal>
         ensures value { IfOk result (TellsParties (text_in (fields_of slip.now))) }
         ensures refusal { AllThere (text_in (fields_of slip.now)) always_needed → result_err result ≡ option_map BadField (first_bad (text_in (fields_of slip.now)) party_tags) }
     {

@@ -1,5 +1,5 @@
 // Reading a slip.
-ghost use Rattle.std.specs.Prelude.{◌≡◌, List, Some};
+ghost use Rattle.std.specs.Prelude.{◌≡◌, ◌≤◌, List, Some, length};
 ghost use Rattle.std.specs.Option.{option_map};
 ghost use Rattle.std.specs.Result.{result_ok};
 ghost use Rattle.slip.specs.Fields.{fields_of};
@@ -8,9 +8,9 @@ ghost use Rattle.slip.specs.Layout.{FieldParts, IsSlip, fields_behind, fields_fr
 use super::Slip;
 use crate::check::fit;
 
-const MOST_FIELDS: usize = 25;
+pub(crate) const MOST_FIELDS: usize = 25;
 
-const MOST_TEXT: usize = 512;
+pub(crate) const MOST_TEXT: usize = 512;
 
 // Bytes that are not laid out as a slip.
 #[derive(Clone, Copy, Debug)]
@@ -19,6 +19,7 @@ pub struct NotASlip;
 impl<'s> Slip<'s> {
     // The slip of these parts, if they fit one another.
     fn new(tags: &'s [u8], ends: &'s [[u8; 2]], text: &'s [u8]) -> Option<Slip<'s>>
+        requires { length text.now ≤ 512 }
         ensures { option_map fields_of result ≡ fields_from text.now 0 0 tags.now ends.now }
     {
         if fit(tags, ends, text) {

@@ -1,0 +1,30 @@
+-- A report that was read is written as its texts, with short amounts.
+use Rattle.std.proofs.Common.{◌≡◌, ℕ, ◌≤◌, true, cond, List, length, take, nat_le, Some, None, Option, Ok, Result, IsOk, refl, ap, sym, ◌∙◌, subst, arith}
+use Rattle.std.proofs.lemmas.Bool.Decides.{nat_tests}
+use Rattle.hex.specs.Hex.{encode_upper}
+use Rattle.listings.specs.Rewritten.{refused_or_written, rewritten_text}
+use Rattle.refusals.specs.declared.refusal.Refusal.{Refusal}
+use Rattle.report.specs.Judging.{fields_told, refusal_of}
+use Rattle.report.specs.Texts.{text_in}
+use Rattle.report.specs.Values.{Tells}
+use Rattle.report.specs.declared.report.Report.{Report}
+use Rattle.slip_writer.proofs.Front.{text_in_front}
+use Rattle.slip_writer.proofs.SameTexts.{same_texts}
+use Rattle.slip_writer.specs.Written.{or_short, slip_of}
+use Rattle.texts.specs.Buffers.{answered, filled}
+
+-- a buffer with room is not too short
+pub room_is_enough : (text buffer : List ℕ) (r : Result ℕ Refusal) → r ≡ or_short (answered text buffer) → length text ≤ length buffer → IsOk r
+room_is_enough text buffer r e l = let t : nat_le (length text) (length buffer) ≡ true = grind (arith, nat_tests) in subst IsOk (sym (e ∙ ap (λ b. or_short (cond b (Some (length text)) None)) t)) refl
+
+answered_by : (o : Option ℕ) (n : ℕ) → Ok n ≡ or_short o → o ≡ Some n
+answered_by None n e = absurd (cc)
+answered_by (Some m) n e = let k : Some n ≡ Some m = cc in sym k
+
+-- and the text stands in front
+pub front_of : (text buffer new : List ℕ) (n : ℕ) → Ok n ≡ or_short (answered text buffer) → new ≡ filled text buffer → take n new ≡ text
+front_of text buffer new n e f = ap (take n) f ∙ text_in_front text buffer n (answered_by (answered text buffer) n e)
+
+-- what was read is written again
+pub again : (bytes : List ℕ) (r : Report) → Tells (text_in (fields_told bytes)) r → None ≡ refusal_of bytes → encode_upper (slip_of r) ≡ rewritten_text bytes
+again bytes r t e = ap encode_upper (same_texts r (text_in (fields_told bytes)) t) ∙ ap (λ o. refused_or_written o (text_in (fields_told bytes))) e

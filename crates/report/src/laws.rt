@@ -1,0 +1,8 @@
+// Theorems on reports, the contract of a function that computes nothing.
+ghost use Rattle.report.specs.Laws.{ReportLaws};
+
+// The texts of a slip say one report, and no other.
+#[tactic(auto, using(crate::proofs::OneReport::laws))]
+pub fn report_laws()
+    ensures { ReportLaws }
+{}

@@ -1,0 +1,3 @@
+pub mod Spelled
+pub mod Tagged
+pub mod Faults

@@ -1,0 +1,7 @@
+pub mod SetOut
+pub mod OwnTexts
+pub mod Accepted
+pub mod RoundTrip
+pub mod Front
+pub mod NextField
+pub mod SameTexts
