@@ -1,5 +1,5 @@
 -- A report that was read is written as its texts, with short amounts.
-use Rattle.std.proofs.Common.{◌≡◌, ℕ, ◌≤◌, true, cond, List, length, take, nat_le, Some, None, Option, Ok, Result, IsOk, refl, ap, sym, ◌∙◌, subst, arith}
+use Rattle.std.proofs.Common.{Bool, false, ◌≡◌, ℕ, ◌≤◌, true, cond, List, length, take, nat_le, Some, None, Option, Ok, Result, IsOk, refl, ap, sym, ◌∙◌, subst, arith}
 use Rattle.std.proofs.lemmas.Bool.Decides.{nat_tests}
 use Rattle.hex.specs.Hex.{encode_upper}
 use Rattle.listings.specs.Rewritten.{refused_or_written, rewritten_text}
@@ -28,3 +28,11 @@ front_of text buffer new n e f = ap (take n) f ∙ text_in_front text buffer n (
 -- what was read is written again
 pub again : (bytes : List ℕ) (r : Report) → Tells (text_in (fields_told bytes)) r → None ≡ refusal_of bytes → encode_upper (slip_of r) ≡ rewritten_text bytes
 again bytes r t e = ap encode_upper (same_texts r (text_in (fields_told bytes)) t) ∙ ap (λ o. refused_or_written o (text_in (fields_told bytes))) e
+
+told_length : (b : Bool) (text : List ℕ) (n : ℕ) → cond b (Some (length text)) None ≡ Some n → n ≡ length text
+told_length true text n e = let k : Some n ≡ Some (length text) = sym e in cc
+told_length false text n e = absurd (cc)
+
+-- so the front has its length
+pub front_length : (text buffer new : List ℕ) (n : ℕ) → Ok n ≡ or_short (answered text buffer) → new ≡ filled text buffer → n ≡ length (take n new)
+front_length text buffer new n e f = told_length (nat_le (length text) (length buffer)) text n (answered_by (answered text buffer) n e) ∙ ap length (sym (front_of text buffer new n e f))

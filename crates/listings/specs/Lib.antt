@@ -1,2 +1,3 @@
 pub mod Slips
 pub mod Rewritten
+pub mod Compared

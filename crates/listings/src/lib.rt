@@ -1,5 +1,6 @@
-// What stands in a slip, as lines of an answer.
+// What is told of slips: their fields, a report as it is written again, and two slips compared.
 #![tactic(auto)]
 
+pub mod comparing;
 pub mod rewriting;
 pub mod slips;

@@ -3,3 +3,4 @@ pub mod Verbs
 pub mod Faults
 pub mod Answers
 pub mod Runs
+pub mod Chosen

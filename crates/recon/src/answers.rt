@@ -1,8 +1,11 @@
 // Answers the lines of a journal.
-ghost use Rattle.std.specs.Prelude.{◌≡◌, map, IfOk, IfErr, Some, vec_items, string_bytes};
-ghost use Rattle.recon.specs.Answers.{answer_of, call_answer, no_call, said, text, verb_answer};
+ghost use Rattle.std.specs.Prelude.{◌≡◌, map, IfOk, IfErr, OnErr, OnOk, Some, vec_items, string_bytes};
+ghost use Rattle.recon.specs.Answers.{Says, SaysOrPasses, answer_of, call_answer, client_sheet_said, compare_answer, day_answer, no_call, pair_answer, sheet_answer, slip_answer, text, verb_answer, write_answer};
 ghost use Rattle.recon.specs.Faults.{IfNoCall};
-ghost use Rattle.recon.specs.declared.verb.Verb.TheVariants.{Compare, Day, Slip, Write};
+ghost use Rattle.recon.specs.Chosen.{after_call, after_client, after_line, after_verb, client_bytes};
+ghost use Rattle.recon.specs.declared.verb.Verb.TheVariants.{Sheet};
+ghost use Rattle.built_sheets.specs.Chosen.{chosen};
+ghost use Rattle.hex.specs.Hex.{decode_of};
 
 use crate::compare::compare_amounts;
 use crate::comparison::AmountCheck;
@@ -10,9 +13,13 @@ use crate::fault::Fault;
 use crate::hex_words::read_hex;
 use crate::verb::Verb;
 use almanac::days::look_up;
+use built_sheets::chosen::ChosenSheet;
+use built_sheets::kdpw::KdpwSheet;
+use built_sheets::tabled::TabledSheet;
 use journal::escapes::escape;
 use journal::lines::first_word;
 use journal::words::read_words;
+use listings::comparing::compare_slips;
 use listings::rewriting::rewrite;
 use listings::slips::list_slip;
 use slip_words::spelling::spell_slip;
@@ -20,8 +27,8 @@ use std::alloc::Global;
 
 // The answer to a pair of amounts.
 fn pair_answer(alloc: Global, check: AmountCheck, words: &[Vec<u8>]) -> Result<String, Fault>
-    ensures answered { IfOk result (λ s. text (string_bytes s) ≡ verb_answer (Compare check) (map vec_items words.now)) }
-    ensures fault { IfErr result (λ f. IfNoCall f (no_call ≡ verb_answer (Compare check) (map vec_items words.now))) }
+    ensures answered { IfOk result (λ s. Says (pair_answer check (map vec_items words.now)) (string_bytes s)) }
+    ensures fault { IfErr result (λ f. IfNoCall f (no_call ≡ pair_answer check (map vec_items words.now))) }
 {
     let [first, second] = words else {
         return Err(Fault::WordCount(Verb::Compare(check), words.len()));
@@ -34,8 +41,8 @@ fn pair_answer(alloc: Global, check: AmountCheck, words: &[Vec<u8>]) -> Result<S
 
 // The answer to a day.
 fn day_answer(alloc: Global, words: &[Vec<u8>]) -> Result<String, Fault>
-    ensures answered { IfOk result (λ s. text (string_bytes s) ≡ verb_answer Day (map vec_items words.now)) }
-    ensures fault { IfErr result (λ f. IfNoCall f (no_call ≡ verb_answer Day (map vec_items words.now))) }
+    ensures answered { IfOk result (λ s. Says (day_answer (map vec_items words.now)) (string_bytes s)) }
+    ensures fault { IfErr result (λ f. IfNoCall f (no_call ≡ day_answer (map vec_items words.now))) }
 {
     let [word] = words else {
         return Err(Fault::WordCount(Verb::Day, words.len()));
@@ -48,8 +55,8 @@ fn day_answer(alloc: Global, words: &[Vec<u8>]) -> Result<String, Fault>
 
 // The answer to the bytes of a slip.
 fn slip_answer(alloc: Global, words: &[Vec<u8>]) -> Result<String, Fault>
-    ensures answered { IfOk result (λ s. text (string_bytes s) ≡ verb_answer Slip (map vec_items words.now)) }
-    ensures fault { IfErr result (λ f. IfNoCall f (no_call ≡ verb_answer Slip (map vec_items words.now))) }
+    ensures answered { IfOk result (λ s. Says (slip_answer (map vec_items words.now)) (string_bytes s)) }
+    ensures fault { IfErr result (λ f. IfNoCall f (no_call ≡ slip_answer (map vec_items words.now))) }
 {
     let [word] = words else {
         return Err(Fault::WordCount(Verb::Slip, words.len()));
@@ -61,31 +68,97 @@ fn slip_answer(alloc: Global, words: &[Vec<u8>]) -> Result<String, Fault>
 
 // The answer to the words of a slip.
 fn write_answer(alloc: Global, words: &[Vec<u8>]) -> Result<String, Fault>
-    ensures answered { IfOk result (λ s. text (string_bytes s) ≡ verb_answer Write (map vec_items words.now)) }
-    ensures fault { IfErr result (λ f. IfNoCall f (no_call ≡ verb_answer Write (map vec_items words.now))) }
+    ensures answered { IfOk result (λ s. Says (write_answer (map vec_items words.now)) (string_bytes s)) }
+    ensures fault { IfErr result (λ f. IfNoCall f (no_call ≡ write_answer (map vec_items words.now))) }
 {
     let bytes = spell_slip(alloc, words)?;
     let written = rewrite(alloc, bytes.as_slice())?;
     Ok(format!(in alloc; "write {written}")?)
 }
 
+// The answer to the bytes of a client's sheet, which is chosen from now on if they are one.
+fn choose_tabled(alloc: Global, sheet: &mut ChosenSheet, word: &[u8]) -> Result<String, Fault>
+    ensures answered { IfOk result (λ s. Says (client_sheet_said (decode_of word.now)) (string_bytes s)) }
+    ensures fault { IfErr result (λ f. IfNoCall f (no_call ≡ client_sheet_said (decode_of word.now))) }
+    ensures chosen { OnOk result (client_bytes sheet.new ≡ after_client (client_bytes sheet.old) (decode_of word.now)) }
+    ensures no_choice { IfErr result (λ f. IfNoCall f (client_bytes sheet.old ≡ after_client (client_bytes sheet.old) (decode_of word.now))) }
+    ensures kept { OnErr result (sheet.new ≡ sheet.old) }
+{
+    let bytes = read_hex(alloc, word)?;
+    match TabledSheet::read(bytes.as_slice()) {
+        Ok(tabled) => {
+            let told = format!(in alloc; "sheet tabled")?;
+            *sheet = ChosenSheet::Tabled(tabled);
+            Ok(told)
+        }
+        Err(refusal) => Ok(format!(in alloc; "sheet {refusal}")?),
+    }
+}
+
+// The answer to the word of a sheet, which is chosen from now on.
+fn sheet_answer(alloc: Global, sheet: &mut ChosenSheet, words: &[Vec<u8>]) -> Result<String, Fault>
+    ensures answered { IfOk result (λ s. Says (sheet_answer (map vec_items words.now)) (string_bytes s)) }
+    ensures fault { IfErr result (λ f. IfNoCall f (no_call ≡ sheet_answer (map vec_items words.now))) }
+    ensures chosen { OnOk result (client_bytes sheet.new ≡ after_verb (client_bytes sheet.old) Sheet (map vec_items words.now)) }
+    ensures no_choice { IfErr result (λ f. IfNoCall f (client_bytes sheet.old ≡ after_verb (client_bytes sheet.old) Sheet (map vec_items words.now))) }
+    ensures kept { OnErr result (sheet.new ≡ sheet.old) }
+{
+    let [word] = words else {
+        return Err(Fault::WordCount(Verb::Sheet, words.len()));
+    };
+    if word.as_slice() != b"kdpw".as_slice() {
+        return choose_tabled(alloc, sheet, word.as_slice());
+    }
+    let told = format!(in alloc; "sheet kdpw")?;
+    *sheet = ChosenSheet::Kdpw(KdpwSheet);
+    Ok(told)
+}
+
+// The answer to two slips.
+fn compare_answer(alloc: Global, sheet: &ChosenSheet, words: &[Vec<u8>]) -> Result<String, Fault>
+    ensures answered { IfOk result (λ s. Says (compare_answer (chosen sheet.now) (map vec_items words.now)) (string_bytes s)) }
+    ensures fault { IfErr result (λ f. IfNoCall f (no_call ≡ compare_answer (chosen sheet.now) (map vec_items words.now))) }
+{
+    let [first, second] = words else {
+        return Err(Fault::WordCount(Verb::CompareSlips, words.len()));
+    };
+    let first = read_hex(alloc, first.as_slice())?;
+    let second = read_hex(alloc, second.as_slice())?;
+    let compared = compare_slips(alloc, sheet, first.as_slice(), second.as_slice())?;
+    Ok(format!(in alloc; "compare {compared}")?)
+}
+
 // The answer to a verb and the words behind it.
-fn verb_answer(alloc: Global, verb: Verb, words: &[Vec<u8>]) -> Result<String, Fault>
-    ensures answered { IfOk result (λ s. text (string_bytes s) ≡ verb_answer verb (map vec_items words.now)) }
-    ensures fault { IfErr result (λ f. IfNoCall f (no_call ≡ verb_answer verb (map vec_items words.now))) }
+#[tactic(auto, unfolding(crate::specs::Answers::verb_answer))]
+fn verb_answer(
+    alloc: Global,
+    sheet: &mut ChosenSheet,
+    verb: Verb,
+    words: &[Vec<u8>],
+) -> Result<String, Fault>
+    ensures answered { IfOk result (λ s. Says (verb_answer (chosen sheet.old) verb (map vec_items words.now)) (string_bytes s)) }
+    ensures fault { IfErr result (λ f. IfNoCall f (no_call ≡ verb_answer (chosen sheet.old) verb (map vec_items words.now))) }
+    ensures chosen { OnOk result (client_bytes sheet.new ≡ after_verb (client_bytes sheet.old) verb (map vec_items words.now)) }
+    ensures no_choice { IfErr result (λ f. IfNoCall f (client_bytes sheet.old ≡ after_verb (client_bytes sheet.old) verb (map vec_items words.now))) }
+    ensures kept { OnErr result (sheet.new ≡ sheet.old) }
 {
     match verb {
         Verb::Compare(check) => pair_answer(alloc, check, words),
         Verb::Day => day_answer(alloc, words),
         Verb::Slip => slip_answer(alloc, words),
         Verb::Write => write_answer(alloc, words),
+        Verb::Sheet => sheet_answer(alloc, sheet, words),
+        Verb::CompareSlips => compare_answer(alloc, sheet, words),
     }
 }
 
 // The answer to the words of a line.
-fn call_answer(alloc: Global, words: &[Vec<u8>]) -> Result<String, Fault>
-    ensures answered { IfOk result (λ s. text (string_bytes s) ≡ call_answer (Some (map vec_items words.now))) }
-    ensures fault { IfErr result (λ f. IfNoCall f (no_call ≡ call_answer (Some (map vec_items words.now)))) }
+fn call_answer(alloc: Global, sheet: &mut ChosenSheet, words: &[Vec<u8>]) -> Result<String, Fault>
+    ensures answered { IfOk result (λ s. Says (call_answer (chosen sheet.old) (Some (map vec_items words.now))) (string_bytes s)) }
+    ensures fault { IfErr result (λ f. IfNoCall f (no_call ≡ call_answer (chosen sheet.old) (Some (map vec_items words.now)))) }
+    ensures chosen { OnOk result (client_bytes sheet.new ≡ after_call (client_bytes sheet.old) (Some (map vec_items words.now))) }
+    ensures no_choice { IfErr result (λ f. IfNoCall f (client_bytes sheet.old ≡ after_call (client_bytes sheet.old) (Some (map vec_items words.now)))) }
+    ensures kept { OnErr result (sheet.new ≡ sheet.old) }
 {
     let [verb, behind @ ..] = words else {
         return Err(Fault::NoVerb);
@@ -93,18 +166,26 @@ fn call_answer(alloc: Global, words: &[Vec<u8>]) -> Result<String, Fault>
     let Ok(verb) = Verb::try_from(verb.as_slice()) else {
         return Err(Fault::UnknownVerb(escape(alloc, verb.as_slice())?));
     };
-    verb_answer(alloc, verb, behind)
+    verb_answer(alloc, sheet, verb, behind)
 }
 
-// The answer to a line, or nothing where it is blank or a comment.
-pub fn answer_line(alloc: Global, line: &[u8]) -> Result<Option<String>, Fault>
-    ensures answered { IfOk result (λ o. said o ≡ answer_of line.now) }
-    ensures fault { IfErr result (λ f. IfNoCall f (no_call ≡ answer_of line.now)) }
+// The answer to a line, or nothing where it is blank or a comment; and the sheet for the lines that follow.
+#[tactic(auto, using(crate::proofs::Saying::says_some), unfolding(crate::specs::Answers::answer_of, crate::specs::Chosen::after_line))]
+pub fn answer_line(
+    alloc: Global,
+    sheet: &mut ChosenSheet,
+    line: &[u8],
+) -> Result<Option<String>, Fault>
+    ensures answered { IfOk result (λ o. SaysOrPasses (answer_of (chosen sheet.old) line.now) o) }
+    ensures fault { IfErr result (λ f. IfNoCall f (no_call ≡ answer_of (chosen sheet.old) line.now)) }
+    ensures chosen { OnOk result (client_bytes sheet.new ≡ after_line (client_bytes sheet.old) line.now) }
+    ensures no_choice { IfErr result (λ f. IfNoCall f (client_bytes sheet.old ≡ after_line (client_bytes sheet.old) line.now)) }
+    ensures kept { OnErr result (sheet.new ≡ sheet.old) }
 {
     let (first, _) = first_word(line);
     if matches!(first, [] | [b'#', ..]) {
         return Ok(None);
     }
     let words = read_words(alloc, line)?;
-    Ok(Some(call_answer(alloc, words.as_slice())?))
+    Ok(Some(call_answer(alloc, sheet, words.as_slice())?))
 }

@@ -13,6 +13,10 @@ pub enum Verb {
     Slip,
     // a report, as it is written again
     Write,
+    // the sheet for the calls that follow
+    Sheet,
+    // two slips, under the sheet
+    CompareSlips,
 }
 
 // A word that names no verb.

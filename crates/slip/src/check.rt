@@ -11,6 +11,7 @@ fn may_follow(size: usize, last: u8, place: usize, tag: u8, end: usize) -> bool
     last < tag && tag <= LAST_TAG && place < end && end <= size
 }
 
+// Whether tags and ends are a slip's with this text.
 pub fn fit(tags: &[u8], ends: &[[u8; 2]], text: &[u8]) -> bool
     ensures { result ≡ is_some (fields_from text.now 0 0 tags.now ends.now) }
 {

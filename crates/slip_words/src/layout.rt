@@ -1,5 +1,5 @@
 // The bytes of fields, as a slip is laid out.
-ghost use Rattle.std.specs.Prelude.{◌≡◌, ◌++◌, ◌≤◌, length, nat_le, if◌then◌else◌, IfOk, IfErr, OnOk, map, vec_items, Some, None};
+ghost use Rattle.std.specs.Prelude.{◌≡◌, ◌++◌, ◌≤◌, length, nat_le, if◌then◌else◌, IfOk, IfErr, OnOk, map, Some, None};
 ghost use Rattle.std.specs.List.{concat};
 ghost use Rattle.slip.specs.Layout.{ends_of};
 ghost use Rattle.slip.specs.Writing.{bytes_of_texts, set_out};

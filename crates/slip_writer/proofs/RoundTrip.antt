@@ -1,5 +1,5 @@
 -- What is written is a slip, and reading it gives the same report.
-use Rattle.std.proofs.Common.{length, ◌+◌, ◌≤◌, ◌≡◌, ◌-◌, List, ◌∷◌, ◌++◌, take, drop, None, Ok, Err, Result, IfOk, refl, ap, ◌∙◌, subst, arith, length-append, ◌*◌}
+use Rattle.std.proofs.Common.{sym, length, ◌+◌, ◌≤◌, ◌≡◌, ◌-◌, List, ◌∷◌, ◌++◌, take, drop, None, Ok, Err, Result, IfOk, refl, ap, ◌∙◌, subst, arith, length-append, ◌*◌}
 use mathlib.Core.Path.{fun_ext}
 use Rattle.std.specs.Result.{result_err}
 use Rattle.refusals.specs.Words.{tag_number}
@@ -87,6 +87,10 @@ refused_for_nothing r = ap refusal_of_fields (complete (slip_of r) (fields_writt
 same_answer : (r : Report) (answer : Result Report Refusal) → IfOk answer (Tells (written_text r)) → result_err answer ≡ None → answer ≡ Ok r
 same_answer r (Ok q) t e = ap Ok (one_report (written_text r) q r t (told r))
 same_answer r (Err refusal) t e = absurd (cc)
+
+-- what was written reads as the report
+pub reads_as : (r : Report) → ReadAs (slip_of r) (Ok r)
+reads_as r = (subst (λ texts. Tells texts r) (sym (texts_back r)) (told r), sym (refused_for_nothing r))
 
 -- reading what was written gives the same report
 pub reads_back : (r : Report) (answer : Result Report Refusal) → ReadAs (slip_of r) answer → answer ≡ Ok r

@@ -48,7 +48,8 @@ const ALL_TAGS: &[Tag] = &[
     Tag::Valuation,
 ];
 
-// Puts the fields that a report has one behind the other.
+// Puts the fields that a report has one behind the other. The tags are all of them, handed in so that the prover sees no
+// list of twenty-five.
 #[tactic(auto, using(crate::proofs::NextField::may_be_put_next, crate::proofs::NextField::put, crate::proofs::NextField::passed))]
 fn draft_of(report: &Report, tags: &[Tag]) -> Draft
     requires { tags.now ≡ all_tags }
@@ -80,6 +81,7 @@ pub fn write_report(report: &Report, out: &mut [u8]) -> Result<usize, Refusal>
     ensures room { length (slip_of report.now) ≤ LONGEST }
     ensures texts { (texts : Texts) → Tells texts report.now → slip_of report.now ≡ slip_with (shortened texts) }
     ensures slip { IsSlip (slip_of report.now) (fields_written report.now) }
+    ensures is_read { ReadAs (slip_of report.now) (Ok report.now) }
     ensures reads_back { (answer : Result Report Refusal) → ReadAs (slip_of report.now) answer → answer ≡ Ok report.now }
 {
     draft(report)

@@ -19,6 +19,8 @@ impl<'a> TryFrom<&'a [u8]> for Verb {
             b"day" => Ok(Verb::Day),
             b"slip" => Ok(Verb::Slip),
             b"write" => Ok(Verb::Write),
+            b"sheet" => Ok(Verb::Sheet),
+            b"compare" => Ok(Verb::CompareSlips),
             _ => Err(UnknownVerb),
         }
     }
@@ -33,6 +35,8 @@ impl fmt::Display for Verb {
             Verb::Day => write!(f, "day"),
             Verb::Slip => write!(f, "slip"),
             Verb::Write => write!(f, "write"),
+            Verb::Sheet => write!(f, "sheet"),
+            Verb::CompareSlips => write!(f, "compare"),
         }
     }
 }
@@ -43,8 +47,8 @@ impl Verb {
         ensures { result.now ≡ taken_text self }
     {
         match self {
-            Verb::Compare(_) => "2 words",
-            Verb::Day | Verb::Slip => "1 word",
+            Verb::Compare(_) | Verb::CompareSlips => "2 words",
+            Verb::Day | Verb::Slip | Verb::Sheet => "1 word",
             Verb::Write => "the words of a slip",
         }
     }

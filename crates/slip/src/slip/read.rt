@@ -42,7 +42,7 @@ impl<'s> Slip<'s> {
         Slip::new(tags, ends, text)
     }
 
-    // The fields of a slip, if the bytes are laid out as one.
+    // The slip that the bytes are, if they are laid out as one.
     pub fn read(bytes: &'s [u8]) -> Result<Slip<'s>, NotASlip>
         ensures value { option_map fields_of (result_ok result) ≡ fields_in bytes.now }
         ensures plain { Reads bytes.now (option_map fields_of (result_ok result)) }

@@ -1,7 +1,7 @@
 use Rattle.std.proofs.Common.{◌≡◌, IfOk, replicate, string_bytes, subst, sym, ◌∙◌}
 use Rattle.hex.specs.Hex.{encode_upper}
 use Rattle.slip_writer.specs.Written.{slip_of}
-use Rattle.listings.proofs.Again.{front_of, room_is_enough}
+use Rattle.listings.proofs.Again.{front_length, front_of, room_is_enough}
 use Rattle.listings.proofs.rewriting.written.Goals as goal
 
 -- src/rewriting.rt:17:9
@@ -13,3 +13,6 @@ pub returns : goal.returns
 returns c =
     let front = front_of (slip_of c.args.report.now) (replicate 449 0) _ c.unwrap-len.result (sym c.unwrap-len.ensures ∙ c.write_report.ensures.answer) c.write_report.ensures.buffer in
     subst (λ bytes. IfOk c.encode_upper.result (λ s. string_bytes s ≡ encode_upper bytes)) front c.encode_upper.ensures
+
+pub slice_bounds-encode_upper-end : goal.slice_bounds-encode_upper-end
+slice_bounds-encode_upper-end c = front_length (slip_of c.args.report.now) (replicate 449 0) _ c.unwrap-len.result (sym c.unwrap-len.ensures ∙ c.write_report.ensures.answer) c.write_report.ensures.buffer

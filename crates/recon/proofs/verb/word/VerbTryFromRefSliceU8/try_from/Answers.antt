@@ -14,3 +14,6 @@ returns-in-day c = sym (ap verb_named (text_from_reads c.args.word.now (codes "d
 
 pub returns-in-slip : goal.returns-in-slip
 returns-in-slip c = sym (ap verb_named (text_from_reads c.args.word.now (codes "slip") (omega arith) (search rules)))
+
+pub returns-in-compare : goal.returns-in-compare
+returns-in-compare c = sym (ap verb_named (text_from_reads c.args.word.now (codes "compare") (omega arith) (search rules)))

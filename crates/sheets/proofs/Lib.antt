@@ -1,0 +1,3 @@
+pub mod Exchanged
+pub mod Filling
+pub mod Told

@@ -1,0 +1,3 @@
+pub mod Findings
+pub mod Sheets
+pub mod Laws
