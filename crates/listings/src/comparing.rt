@@ -9,7 +9,7 @@ use sheets::sheet::Sheet;
 use std::alloc::{AllocError, Global};
 
 // A digit for each finding.
-fn push_findings(out: &mut String, findings: &[Finding]) -> Result<(), AllocError>
+pub fn push_findings(out: &mut String, findings: &[Finding]) -> Result<(), AllocError>
     ensures { OnOk result (string_bytes out.new ≡ string_bytes out.old ++ findings_text findings.now) }
 {
     for finding in findings {

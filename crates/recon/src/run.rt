@@ -1,17 +1,22 @@
 // The run of a journal, line by line.
-ghost use Rattle.std.specs.Prelude.{◌≡◌, ◌+◌, ◌-◌, ◌^◌, min, true, false, ◌&&◌, IfOk, None, string_bytes, OnOk};
+ghost use Rattle.std.specs.Prelude.{◌≡◌, ◌+◌, ◌-◌, ◌^◌, min, true, false, ◌&&◌, IfOk, None, [], string_bytes, OnOk};
 ghost use Rattle.std.specs.Option.{option_map};
-ghost use Rattle.recon.specs.Answers.{answer_of};
-ghost use Rattle.recon.specs.Chosen.{after_line, client_bytes};
+ghost use Rattle.verbs.specs.Answers.{Keeps, answer_of};
+ghost use Rattle.verbs.specs.Chosen.{after_line};
+ghost use Rattle.verbs.specs.Settings.{setting_of};
 ghost use Rattle.built_sheets.specs.Chosen.{chosen};
 ghost use Rattle.recon.specs.Runs.{Prints, is_call};
 
-use crate::answers::answer_line;
-use crate::fault::Fault;
 use built_sheets::chosen::ChosenSheet;
 use built_sheets::kdpw::KdpwSheet;
+use desk::opening::Opening;
 use journal::lines::Lines;
 use std::alloc::{AllocError, Global};
+use std::io::Write;
+use verbs::answers::answer_line;
+use verbs::fault::Fault;
+use verbs::settings::Settings;
+use verbs::shelf::Shelf;
 
 // How far a run has come.
 #[derive(Drop)]
@@ -22,19 +27,24 @@ pub struct Run {
     // `Result`, since lines are counted and run after a fault too
     clean: bool,
     // for the calls that follow
-    sheet: ChosenSheet,
+    settings: Settings,
 }
 
 impl Run {
-    pub fn new() -> Run
+    pub fn new(alloc: Global) -> Run
         ensures lines { result.lines ≡ 0 }
         ensures clean { result.clean ≡ true }
-        ensures sheet { client_bytes result.sheet ≡ None }
+        ensures settings { setting_of result.settings ≡ record { client = None; parties = []; countries = []; opening = None } }
     {
         Run {
             lines: 0,
             clean: true,
-            sheet: ChosenSheet::Kdpw(KdpwSheet),
+            settings: Settings {
+                sheet: ChosenSheet::Kdpw(KdpwSheet),
+                parties: Vec::new(alloc),
+                countries: Vec::new(alloc),
+                opening: None,
+            },
         }
     }
 
@@ -48,22 +58,28 @@ impl Run {
     pub fn mark_failed(&mut self)
         ensures lines { self.new.lines ≡ self.old.lines }
         ensures clean { self.new.clean ≡ false }
-        ensures sheet { self.new.sheet ≡ self.old.sheet }
+        ensures settings { self.new.settings ≡ self.old.settings }
     {
         self.clean = false;
     }
 
     // Takes the next line, and gives what is printed of it.
-    #[tactic(auto, using(crate::proofs::Saying::prints_none, crate::proofs::Saying::prints_some, crate::proofs::Saying::is_called))]
-    fn step(&mut self, alloc: Global, line: &[u8]) -> Result<Option<String>, AllocError>
-        ensures printed { IfOk result (λ o. Prints self.new.lines (answer_of (chosen self.old.sheet) line.now) (option_map string_bytes o)) }
+    #[tactic(auto, using(crate::proofs::Printing::prints_none, crate::proofs::Printing::prints_some, crate::proofs::Printing::is_called, crate::proofs::Printing::kept))]
+    fn step(
+        &mut self,
+        alloc: Global,
+        shelf: &mut Shelf<'_>,
+        line: &[u8],
+    ) -> Result<Option<String>, AllocError>
+        ensures printed { IfOk result (λ o. Prints self.new.lines (answer_of (chosen self.old.settings.sheet) (setting_of self.old.settings) shelf.old shelf.new line.now) (option_map string_bytes o)) }
         ensures counted { self.new.lines ≡ min (self.old.lines + 1) (2 ^ 64 - 1) }
-        ensures status { OnOk result (self.new.clean ≡ (self.old.clean && is_call (answer_of (chosen self.old.sheet) line.now))) }
-        ensures sheet { OnOk result (client_bytes self.new.sheet ≡ after_line (client_bytes self.old.sheet) line.now) }
+        ensures status { OnOk result (self.new.clean ≡ (self.old.clean && is_call (answer_of (chosen self.old.settings.sheet) (setting_of self.old.settings) shelf.old shelf.new line.now))) }
+        ensures settings { OnOk result (setting_of self.new.settings ≡ after_line (setting_of self.old.settings) line.now) }
+        ensures book { OnOk result (Keeps (answer_of (chosen self.old.settings.sheet) (setting_of self.old.settings) shelf.old shelf.new line.now) shelf.old shelf.new) }
     {
         self.lines = self.lines.saturating_add(1);
         let number = self.lines;
-        match answer_line(alloc, &mut self.sheet, line) {
+        match answer_line(alloc, &mut self.settings, shelf, line) {
             Ok(None) => Ok(None),
             Ok(Some(answer)) => Ok(Some(format!(in alloc; "{number}: {answer}")?)),
             Err(Fault::OutOfMemory(error)) => Err(error),
@@ -74,14 +90,24 @@ impl Run {
         }
     }
 
-    // Runs each line of a journal.
-    pub fn journal(&mut self, rt: &HostRuntime, journal: &[u8]) -> anyhow::Result<()> {
-        for line in Lines(journal) {
-            if let Some(text) = self.step(rt.alloc(), line)? {
-                rt.println(text)?;
+    // Runs lines up to one that opens a book, and tells how it is to be opened: none at the end of the journal.
+    pub fn run_lines<W: Write>(
+        &mut self,
+        alloc: Global,
+        out: &mut W,
+        shelf: &mut Shelf<'_>,
+        lines: &mut Lines<'_>,
+    ) -> anyhow::Result<Option<Opening>> {
+        for line in lines {
+            if let Some(text) = self.step(alloc, shelf, line)? {
+                writeln!(out, "{text}")?;
+            }
+            let asked = self.settings.opening.take();
+            if asked.is_some() {
+                return Ok(asked);
             }
         }
-        Ok(())
+        Ok(None)
     }
 }
 
@@ -93,17 +119,18 @@ mod tests {
     #[test]
     fn lines_are_numbered_and_faults_remembered(rt: HostRuntime) -> Result<(), Fail> {
         let alloc = rt.alloc();
-        let mut run = Run::new();
-        let first = run.step(alloc, b"price 1 1.005")?;
+        let mut run = Run::new(alloc);
+        let mut shelf = Shelf::Empty;
+        let first = run.step(alloc, &mut shelf, b"price 1 1.005")?;
         assert!(rt; first.is_some());
-        assert!(rt; run.step(alloc, b"# a comment")?.is_none());
+        assert!(rt; run.step(alloc, &mut shelf, b"# a comment")?.is_none());
         assert!(rt; run.is_clean());
-        let Some(third) = run.step(alloc, b"lookup T1")? else {
+        let Some(third) = run.step(alloc, &mut shelf, b"lookup T1")? else {
             return Err(Fail::new("nothing printed"));
         };
-        assert!(rt; third.as_str() == "3: ? unknown verb lookup");
+        assert!(rt; third.as_str() == "3: ? no book is open");
         assert!(rt; !run.is_clean());
-        let Some(fourth) = run.step(alloc, b"price 1 1.005")? else {
+        let Some(fourth) = run.step(alloc, &mut shelf, b"price 1 1.005")? else {
             return Err(Fail::new("nothing printed"));
         };
         assert!(rt; fourth.as_str() == "4: price 1 1.005 matches");

@@ -49,8 +49,8 @@ fn some_differ<S: Sheet>(sheet: &S, category: Category, findings: &[Finding]) ->
     false
 }
 
-// The state of a pair with these findings.
-fn state<S: Sheet>(sheet: &S, findings: &[Finding]) -> PairState
+// The state of a pair with these findings, for one that is not compared anew too.
+pub fn pair_state<S: Sheet>(sheet: &S, findings: &[Finding]) -> PairState
     ensures { result ≡ state_by (S.meaning sheet.now) findings.now }
 {
     if some_differ(sheet, Category::First, findings) {
@@ -71,6 +71,6 @@ pub fn compare<S: Sheet>(sheet: &S, first: &Details, second: &Details) -> Compar
     ensures state_exchanged { state_of (S.meaning sheet.now) second.now first.now ≡ state_of (S.meaning sheet.now) first.now second.now }
 {
     let findings = findings(sheet, first, second);
-    let state = state(sheet, &findings);
+    let state = pair_state(sheet, &findings);
     Comparison { findings, state }
 }

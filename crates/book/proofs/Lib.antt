@@ -1,0 +1,5 @@
+pub mod Runs
+pub mod Reporting
+pub mod Looking
+pub mod Opening
+pub mod Closing

@@ -1,0 +1,2 @@
+pub mod Behind
+pub mod Chain

@@ -1,0 +1,4 @@
+pub mod Judging
+pub mod Settling
+pub mod Listing
+pub mod Ending

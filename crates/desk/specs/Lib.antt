@@ -1,0 +1,5 @@
+pub mod Numbers
+pub mod Lists
+pub mod Refused
+pub mod Openings
+pub mod Told

@@ -1,0 +1,30 @@
+-- How a book is opened, and what is told of it.
+use Rattle.std.specs.Prelude.{ℕ, min, List, ◌++◌, codes, decimal, Some, None, Option, Ok, Err, Result}
+use Rattle.business.specs.BusinessDays.{day_no, not_a_business_day, opening_of}
+use Rattle.calendar.specs.Text.{date_text}
+use Rattle.refusals.specs.Words.{RefusalParts, refusal_text}
+use Rattle.desk.specs.declared.opening.Opening.{Opening}
+
+-- the day on which a book begins, and how many rows it is given
+pub record Opened : Type 0 where
+  pub day : ℕ
+  pub rows : ℕ
+
+abbrev pub opened_by : Opening → Opened
+opened_by o = record { day = day_no o.day; rows = o.rows }
+
+abbrev pub opened_on : Option ℕ → ℕ → Result Opened RefusalParts
+opened_on None rows = Err not_a_business_day
+opened_on (Some day) rows = Ok (record { day = day; rows = rows })
+
+-- how a book is opened on the day that a text names
+abbrev pub opening_read : List ℕ → ℕ → Result Opened RefusalParts
+opening_read text rows = opened_on (opening_of text) rows
+
+-- the day, and how many rows the book uses: 4,096 at most
+abbrev pub opened_text : Opened → List ℕ
+opened_text o = date_text o.day ++ (codes " " ++ (decimal (min o.rows 4096) ++ codes " rows"))
+
+abbrev pub opening_text : Result Opened RefusalParts → List ℕ
+opening_text (Ok o) = opened_text o
+opening_text (Err refusal) = refusal_text refusal

@@ -1,0 +1,5 @@
+// Reports, over the rows of a table.
+#![tactic(auto)]
+
+pub mod locate;
+pub mod receive;

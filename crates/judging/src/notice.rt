@@ -1,0 +1,46 @@
+// The notice of a row.
+ghost use Rattle.std.specs.Prelude.{◌≡◌, Some};
+ghost use Rattle.std.specs.Option.{option_map};
+ghost use Rattle.rows.specs.Entries.{entry_of};
+ghost use Rattle.rules.specs.Judging.{notice_by, same_shown, shown};
+ghost use Rattle.judging.specs.Lines.{found, notice_told};
+
+use rows::notice::Notice;
+use rows::row::changes::uncompared;
+use rows::row::{Fate, Row, Verdict};
+use rows::state::State;
+
+// Whether a row shows already what was found of it.
+fn is_shown(row: &Row, verdict: &Verdict) -> bool
+    ensures { result ≡ same_shown (verdict.now.state, verdict.now.findings) (shown (entry_of row.now)) }
+{
+    verdict.state == row.state && verdict.findings == row.findings
+}
+
+// The notice that a row gives: that it is freed, or what changes.
+pub fn notice(row: &Row, fate: &Fate) -> Option<Notice>
+    ensures { (v : _) → found fate.now ≡ Some v → option_map notice_told result ≡ notice_by (entry_of row.now) v }
+{
+    match fate {
+        Fate::Open => None,
+        Fate::Freed => {
+            let findings = uncompared();
+            Some(Notice {
+                key: row.key,
+                state: State::Gone,
+                findings,
+            })
+        }
+        Fate::Stays(verdict) => {
+            if is_shown(row, verdict) {
+                return None;
+            }
+            let findings = verdict.findings;
+            Some(Notice {
+                key: row.key,
+                state: verdict.state,
+                findings,
+            })
+        }
+    }
+}

@@ -1,0 +1,3 @@
+pub mod KeyLaws
+pub mod StandingLaws
+pub mod OneRow

@@ -1,0 +1,9 @@
+pub mod Words
+pub mod Keys
+pub mod Standings
+pub mod Days
+pub mod Entries
+pub mod Changes
+pub mod Blank
+pub mod Closing
+pub mod Laws

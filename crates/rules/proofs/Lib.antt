@@ -1,0 +1,4 @@
+pub mod Entries
+pub mod Keys
+pub mod Shown
+pub mod Days
