@@ -8,6 +8,7 @@ use crate::comparison::{AmountCheck, Comparison, SentBack, Side};
 use amounts::amount::Amount;
 use refusals::refusal::Refusal;
 use refusals::tag::Tag;
+use std::error::Error;
 use std::fmt;
 
 impl AmountCheck {
@@ -100,3 +101,5 @@ impl fmt::Display for SentBack {
         write!(f, "{refusal} {side}")
     }
 }
+
+impl Error for SentBack {}

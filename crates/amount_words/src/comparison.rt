@@ -27,7 +27,7 @@ pub enum Comparison {
 }
 
 // Why one of the texts was sent back.
-#[derive(Clone, Copy)]
+#[derive(Clone, Copy, Debug)]
 pub struct SentBack {
     pub refusal: Refusal,
     pub side: Side,

@@ -5,11 +5,13 @@ use Rattle.business.specs.declared.business_day.BusinessDay.{BusinessDay}
 use Rattle.closing.specs.Closing.{LeavesRest}
 use Rattle.intake.specs.Intake.{Changed, Entered, report_answer}
 use Rattle.judging.specs.Lines.{notice_told}
+use Rattle.refusals.specs.Words.{parts_of}
 use Rattle.refusals.specs.declared.refusal.Refusal.{Refusal}
 use Rattle.report.specs.Laws.{ReadAs}
 use Rattle.report.specs.declared.report.Report.{Report}
 use Rattle.rows.specs.Blank.{IsBlank}
 use Rattle.rows.specs.Keys.{key_named}
+use Rattle.rows.specs.Words.{told}
 use Rattle.rows.specs.declared.notice.Notice.{Notice}
 use Rattle.rows.specs.declared.row.Row.{Row}
 use Rattle.rows.specs.declared.state.State.{State}
@@ -73,7 +75,7 @@ pub record Reports (bytes : List ℕ) (old new : Book) (result : Result ⊤ Refu
 -- ---- closes
 
 abbrev pub close_answer : Result (ℕ × ℕ × BusinessDay) Refusal → List Notice → Answer
-close_answer (Err refusal) zs = refused refusal
+close_answer (Err refusal) zs = refused (parts_of refusal)
 close_answer (Ok c) zs = closed (map notice_told (take c.0 zs)) c.1 (day_no c.2)
 
 -- a refused close leaves the book, every row and every place for notices as they were; after an accepted one come the rows
@@ -92,8 +94,8 @@ pub record Closes (sheet : Meaning) (c : Close) (old new : Book) (ws zs : List N
 -- ---- lookups
 
 abbrev pub look_answer : Result State Refusal → List Finding → Answer
-look_answer (Err refusal) findings = refused refusal
-look_answer (Ok state) findings = shows (state, findings)
+look_answer (Err refusal) findings = refused (parts_of refusal)
+look_answer (Ok state) findings = shows (told state findings)
 
 -- a lookup of the key that three texts name, with the place f for findings, where g stands afterwards
 pub record Looks (b : Book) (trade reporter other : List ℕ) (f g : List Finding) (result : Result State Refusal) : Type 0 where

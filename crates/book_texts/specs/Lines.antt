@@ -3,13 +3,11 @@ use Rattle.std.specs.Prelude.{◌≡◌, ℕ, List, ◌++◌, codes, decimal, le
 use Rattle.std.specs.List.{concat}
 use Rattle.almanac.specs.Days.{day_or_never}
 use Rattle.journal.specs.Escapes.{escaped}
-use Rattle.listings.specs.Compared.{findings_text}
+use Rattle.listings.specs.Compared.{digits_text}
 use Rattle.rows.specs.Entries.{Entry}
 use Rattle.rows.specs.Keys.{Key, key_of}
-use Rattle.rows.specs.Words.{standing_text, state_text}
+use Rattle.rows.specs.Words.{Shown, standing_text, state_text, told}
 use Rattle.rows.specs.declared.notice.Notice.{Notice}
-use Rattle.rows.specs.declared.state.State.{State}
-use Rattle.sheets.specs.declared.finding.Finding.{Finding}
 use Rattle.book_texts.specs.Positions.{differing_text}
 
 abbrev pub key_text : Key → List ℕ
@@ -19,16 +17,16 @@ key_text k = k.trade ++ (codes " " ++ (k.reporter ++ (codes " " ++ k.other)))
 abbrev pub Unescaped : Key → Type 0
 Unescaped k = (escaped k.trade ≡ k.trade) × ((escaped k.reporter ≡ k.reporter) × (escaped k.other ≡ k.other))
 
--- a state and a digit for each finding
-abbrev pub shown_text : State → List Finding → List ℕ
-shown_text state findings = state_text state ++ (codes " " ++ findings_text findings)
+-- the word of a state, and a digit for each finding
+abbrev pub shown_text : Shown → List ℕ
+shown_text s = s.0 ++ (codes " " ++ digits_text s.1)
 
--- a line feed, two blanks, and what is told of a key that shows a state and findings; the findings that differ are named
-abbrev pub told_line : Key → State → List Finding → List ℕ
-told_line k state findings = codes "\n  " ++ (key_text k ++ (codes " " ++ (shown_text state findings ++ differing_text findings)))
+-- a line feed, two blanks, and what is told of a key that shows this; the findings that differ are named
+abbrev pub told_line : Key → Shown → List ℕ
+told_line k s = codes "\n  " ++ (key_text k ++ (codes " " ++ (shown_text s ++ differing_text s.1)))
 
 abbrev pub notice_line : Notice → List ℕ
-notice_line n = told_line (key_of n.key) n.state n.findings
+notice_line n = told_line (key_of n.key) (told n.state n.findings)
 
 abbrev pub notices_text : List Notice → List ℕ
 notices_text notices = concat (map notice_line notices)

@@ -1,8 +1,6 @@
 -- The positions of compared fields, and how those that differ are told.
 use Rattle.std.specs.Prelude.{ℕ, ◌+◌, ◌==◌, if◌then◌else◌, List, [], ◌∷◌, ◌++◌, codes, decimal, map, Some, None, Option}
 use Rattle.std.specs.List.{concat}
-use Rattle.sheets.specs.Findings.{finding_number}
-use Rattle.sheets.specs.declared.finding.Finding.{Finding}
 
 -- the name at each position, counted from 1
 abbrev pub name_of : ℕ → Option (List ℕ)
@@ -32,10 +30,10 @@ named (Some name) = codes " " ++ name
 unfoldable pub position_text : ℕ → List ℕ
 position_text n = decimal n ++ named (name_of n)
 
--- the positions of the findings that differ, where the first of these findings stands at a position
-abbrev pub differing_from : ℕ → List Finding → List ℕ
+-- the positions of the findings that differ, by their numbers, where the first of these findings stands at a position
+abbrev pub differing_from : ℕ → List ℕ → List ℕ
 differing_from n [] = []
-differing_from n (finding ∷ findings) = if finding_number finding == 1 then n ∷ differing_from (n + 1) findings else differing_from (n + 1) findings
+differing_from n (number ∷ numbers) = if number == 1 then n ∷ differing_from (n + 1) numbers else differing_from (n + 1) numbers
 
 -- positions behind others
 abbrev pub more_positions : List ℕ → List ℕ
@@ -46,5 +44,5 @@ abbrev pub positions_text : List ℕ → List ℕ
 positions_text [] = []
 positions_text (n ∷ ns) = codes " (" ++ (position_text n ++ more_positions ns)
 
-abbrev pub differing_text : List Finding → List ℕ
-differing_text findings = positions_text (differing_from 1 findings)
+abbrev pub differing_text : List ℕ → List ℕ
+differing_text numbers = positions_text (differing_from 1 numbers)

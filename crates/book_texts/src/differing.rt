@@ -1,6 +1,7 @@
 // The fields that differ, by their positions and names.
 ghost use Rattle.std.specs.Prelude.{◌≡◌, ◌++◌, OnOk, string_bytes};
 ghost use Rattle.std.specs.Option.{option_map};
+ghost use Rattle.sheets.specs.Findings.{finding_numbers};
 ghost use Rattle.book_texts.specs.Positions.{differing_text, name_of, position_text};
 
 use sheets::finding::Finding;
@@ -43,7 +44,7 @@ fn push_position(out: &mut String, position: usize) -> Result<(), AllocError>
 
 // The positions and names of the findings that differ, in parentheses; nothing where none does.
 pub fn push_differing(out: &mut String, findings: &[Finding]) -> Result<(), AllocError>
-    ensures { OnOk result (string_bytes out.new ≡ string_bytes out.old ++ differing_text findings.now) }
+    ensures { OnOk result (string_bytes out.new ≡ string_bytes out.old ++ differing_text (finding_numbers findings.now)) }
 {
     let mut any = false;
     for place in 0..findings.len() {

@@ -1,5 +1,6 @@
 // What a row shows.
 ghost use Rattle.std.specs.Prelude.{◌≡◌, IfOk, string_bytes};
+ghost use Rattle.rows.specs.Words.{told};
 ghost use Rattle.book_texts.specs.Lines.{shown_text};
 
 use listings::comparing::push_findings;
@@ -9,7 +10,7 @@ use std::alloc::{AllocError, Global};
 
 // A state and its findings.
 pub fn shown_text(alloc: Global, state: State, findings: &[Finding]) -> Result<String, AllocError>
-    ensures { IfOk result (λ s. string_bytes s ≡ shown_text state findings.now) }
+    ensures { IfOk result (λ s. string_bytes s ≡ shown_text (told state findings.now)) }
 {
     let mut out = format!(in alloc; "{state} ")?;
     push_findings(&mut out, findings)?;

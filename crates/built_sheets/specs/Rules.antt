@@ -1,9 +1,11 @@
 -- The rule of the sheets that clients fill.
-use Rattle.std.specs.Prelude.{ℕ, Bool, true, false, ◌&&◌, ◌||◌, List, [], ◌∷◌, length, take, drop, Some, None, Option, ◌==◌}
+use Rattle.std.specs.Prelude.{ℕ, Bool, true, false, ◌&&◌, ◌||◌, List, [], ◌∷◌, length, take, drop, Some, None, Option, ◌==◌, if◌then◌else◌, Result, Ok, Err}
 use Rattle.checks.specs.Checks.{check_number, is_amount, is_side, is_timestamp}
 use Rattle.checks.specs.Values.{compared_fields}
 use Rattle.checks.specs.declared.check.Check.{Check}
 use Rattle.checks.specs.declared.field.Field.{Field}
+use Rattle.refusals.specs.Words.{RefusalParts, parts_of}
+use Rattle.refusals.specs.declared.refusal.Refusal.TheVariants.{BadSheet}
 use Rattle.sheets.specs.declared.finding.Category.{Category}
 use Rattle.sheets.specs.declared.finding.Category.TheVariants.{First, Second, Third}
 
@@ -27,6 +29,10 @@ rows_fit codes categories fields = false
 abbrev pub is_tabled : List ℕ → Bool
 is_tabled [] = false
 is_tabled (count ∷ rest) = count == 15 && (length rest == 30 && rows_fit (take 15 rest) (drop 15 rest) compared_fields)
+
+-- what a client's bytes are read as: a sheet with these bytes, or a refusal that names no field
+abbrev pub sheet_of : List ℕ → Result (List ℕ) RefusalParts
+sheet_of bytes = if is_tabled bytes then Ok bytes else Err (parts_of BadSheet)
 
 -- the code of a check, and 0 for none
 abbrev pub code_of : Option Check → ℕ

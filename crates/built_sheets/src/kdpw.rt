@@ -1,6 +1,7 @@
 // The KDPW sheet: the published table.
 ghost use Rattle.std.specs.Prelude.{◌≡◌, slice_get};
 ghost use Rattle.std.specs.Option.{option_copied};
+ghost use Rattle.sheets.specs.Findings.{finding_number};
 ghost use Rattle.built_sheets.specs.Kdpw.{kdpw};
 ghost use Rattle.built_sheets.specs.Published.{by_aii_or_basket, by_isin, is_compared, published, row_finding};
 
@@ -125,7 +126,7 @@ fn is_compared(field: Field, first: &Details, second: &Details) -> bool
 }
 
 fn row_finding(row: &Row, first: &Details, second: &Details) -> Finding
-    ensures { result ≡ row_finding row.now first.now second.now }
+    ensures { finding_number result ≡ finding_number (row_finding row.now first.now second.now) }
 {
     if is_compared(row.field, first, second) {
         check_field(row.check, row.field, first, second)

@@ -1,14 +1,17 @@
 -- What each check means, and what it finds.
-use Rattle.std.specs.Prelude.{ℕ, ℤ, Bool, true, false, ◌&&◌, ◌||◌, ◌==◌, nat_le, if◌then◌else◌, List, Some, None, Option}
+use Rattle.std.specs.Prelude.{ℕ, ℤ, Bool, true, false, ◌&&◌, ◌==◌, nat_le, if◌then◌else◌, List, Some, None, Option}
 use Rattle.std.specs.Option.{option_map}
-use Rattle.std.specs.Str.{byte, bytes_eq}
+use Rattle.std.specs.Str.{bytes_eq}
 use Rattle.amounts.specs.Checks.{same, same_whole, within_one_percent}
 use Rattle.codes.specs.Codes.{text_of}
+use Rattle.fields.specs.Fields.{side_letter}
+use Rattle.fields.specs.declared.field.detail.Side.{Side}
+use Rattle.fields.specs.declared.field.detail.Side.TheVariants.{Buyer, Seller}
 use Rattle.report.specs.declared.details.Details.{Details}
 use Rattle.sheets.specs.declared.finding.Finding.{Finding}
 use Rattle.sheets.specs.declared.finding.Finding.TheVariants.{Matches, Differs}
 use Rattle.timestamps.specs.Checks.{same_date, same_instant, within_an_hour}
-use Rattle.checks.specs.Values.{Told, letter, text, amount, instant, value_of}
+use Rattle.checks.specs.Values.{Told, side, letter, text, amount, instant, value_of}
 use Rattle.checks.specs.declared.check.Check.{Check}
 use Rattle.checks.specs.declared.check.Check.TheVariants.{OnePercent, WholeNumber, WithinAnHour, SameDate, Exact, Opposite}
 use Rattle.checks.specs.declared.field.Field.{Field}
@@ -53,6 +56,7 @@ fits Opposite field = is_side field
 
 -- the same kind of value, and equal
 abbrev pub same_told : Told → Told → Bool
+same_told (side x) (side y) = side_letter x == side_letter y
 same_told (letter x) (letter y) = x == y
 same_told (text s) (text t) = bytes_eq s t
 same_told (amount x) (amount y) = same x y
@@ -60,13 +64,16 @@ same_told (instant i) (instant j) = same_instant i j
 same_told _ _ = false
 
 -- one is the buyer and the other the seller
-abbrev pub opposite : ℕ → ℕ → Bool
-opposite x y = (x == byte "B" && y == byte "S") || (x == byte "S" && y == byte "B")
+abbrev pub opposite : Side → Side → Bool
+opposite Buyer Seller = true
+opposite Seller Buyer = true
+opposite Buyer Buyer = false
+opposite Seller Seller = false
 
--- a test of letters, of amounts or of instants: no other values pass it
-abbrev pub on_letters : (ℕ → ℕ → Bool) → Told → Told → Bool
-on_letters test (letter x) (letter y) = test x y
-on_letters test _ _ = false
+-- a test of sides, of amounts or of instants: no other values pass it
+abbrev pub on_sides : (Side → Side → Bool) → Told → Told → Bool
+on_sides test (side x) (side y) = test x y
+on_sides test _ _ = false
 
 abbrev pub on_amounts : (ℤ → ℤ → Bool) → Told → Told → Bool
 on_amounts test (amount x) (amount y) = test x y
@@ -83,9 +90,9 @@ holds WholeNumber v w = on_amounts same_whole
 holds WithinAnHour v w = on_instants (within_an_hour v w)
 holds SameDate v w = on_instants same_date
 holds Exact v w = same_told
-holds Opposite v w = on_letters opposite
+holds Opposite v w = on_sides opposite
 
--- absent on both sides matches, on one side differs; else the test decides
+-- a value that neither report gives is no difference, and one that a single report gives is; of two the test decides
 abbrev pub judged : (Told → Told → Bool) → Option Told → Option Told → Finding
 judged test None None = Matches
 judged test None (Some y) = Differs

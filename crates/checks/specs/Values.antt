@@ -4,16 +4,19 @@ use Rattle.std.specs.Option.{option_map}
 use Rattle.amounts.specs.Amounts.{worth}
 use Rattle.amounts.specs.Rates.{rate_worth}
 use Rattle.codes.specs.Codes.{text_of}
-use Rattle.fields.specs.Fields.{compression_letter, price_notation_letter, side_letter, underlying_kind_letter}
+use Rattle.fields.specs.Fields.{compression_letter, price_notation_letter, underlying_kind_letter}
+use Rattle.fields.specs.declared.field.detail.Side.{Side as SideField}
 use Rattle.report.specs.declared.details.Details.{Details}
 use Rattle.timestamps.specs.Timestamps.{instant as instant_of}
 use Rattle.checks.specs.declared.field.Field.{Field}
 use Rattle.checks.specs.declared.field.Field.TheVariants as F
 use Rattle.checks.specs.declared.value.Value.{Value}
-use Rattle.checks.specs.declared.value.Value.TheVariants.{Letter, Text, Amount, Timestamp}
+use Rattle.checks.specs.declared.value.Value.TheVariants.{Side, Letter, Text, Amount, Timestamp}
 
 -- what the value of a field is told by
 pub data Told : Type 0 where
+  side : SideField → Told
+  -- of any other field of one letter
   letter : ℕ → Told
   text : List ℕ → Told
   -- its worth, in units
@@ -22,6 +25,7 @@ pub data Told : Type 0 where
 
 -- what a value tells
 abbrev pub told : Value → Told
+told (Side s) = side s
 told (Letter b) = letter b
 told (Text t) = text t.now
 told (Amount a) = amount (worth a)
@@ -29,7 +33,7 @@ told (Timestamp t) = instant (instant_of t)
 
 -- what a field tells, if the details have it
 abbrev pub value_of : Field → Details → Option Told
-value_of F.Side d = option_map (λ x. letter (side_letter x)) d.side
+value_of F.Side d = option_map (λ x. side x) d.side
 value_of F.ProductId d = option_map (λ x. text (text_of x)) d.product_id
 value_of F.UnderlyingKind d = option_map (λ x. letter (underlying_kind_letter x)) d.underlying_kind
 value_of F.UnderlyingId d = option_map (λ x. text (text_of x)) d.underlying_id

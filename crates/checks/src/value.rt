@@ -5,13 +5,16 @@ ghost use Rattle.checks.specs.Values.{told, value_of};
 
 use crate::field::Field;
 use amounts::amount::Amount;
+use fields::field::detail::Side;
 use fields::letter::Letter;
 use report::details::Details;
 use timestamps::timestamp::Timestamp;
 
-// The value of a field, whichever it is. Texts are borrowed, since they are the long ones.
+// The value of a field, whichever it is. A side is one of two cases, since it can be asked for its opposite; of the other
+// one-letter fields only the letter counts. Texts are borrowed, since they are the long ones.
 #[derive(Clone, Copy)]
 pub enum Value<'d> {
+    Side(Side),
     Letter(u8),
     Text(&'d [u8]),
     Amount(Amount),
@@ -23,7 +26,7 @@ pub fn value_of<'d>(field: Field, details: &'d Details) -> Option<Value<'d>>
     ensures { option_map told result ≡ value_of field details.now }
 {
     match field {
-        Field::Side => Some(Value::Letter(details.side?.letter())),
+        Field::Side => Some(Value::Side(details.side?)),
         Field::ProductId => Some(Value::Text(details.product_id_text()?)),
         Field::UnderlyingKind => Some(Value::Letter(details.underlying_kind?.letter())),
         Field::UnderlyingId => Some(Value::Text(details.underlying_id_text()?)),

@@ -7,11 +7,11 @@ use Rattle.std.proofs.lemmas.List.Sums.{sum_by-append}
 use Rattle.std.proofs.Math.Seq.{map-set_same}
 use Rattle.std.specs.List.{cons_option}
 use Rattle.std.specs.Option.{option_map}
-use Rattle.judging.specs.Lines.{found, notice_told}
+use Rattle.judging.specs.Lines.{found, notice_found, notice_told}
 use Rattle.rows.specs.Entries.{Entry, entry_of}
 use Rattle.rows.specs.declared.notice.Notice.{Notice}
 use Rattle.rows.specs.declared.row.Row.{Row}
-use Rattle.rules.specs.Judging.{Close, judged, notice_by, notice_of, takes_up}
+use Rattle.rules.specs.Judging.{Close, judged, notice_of, takes_up}
 use Rattle.rules.specs.Judging as rules
 use Rattle.rules.specs.Slices.{entries_of}
 use Rattle.rules.specs.Books.{InOrder}
@@ -104,7 +104,7 @@ module _ {s : Meaning} {c : Close} {today used : ℕ} {xs ys : List Row} {ws zs 
   same : entries_of used ys ≡ entries_of used xs
   same = same_entries_of used xs ys p.entries
 
-  pub turn : (x y : Row) (taken : Bool) (o : Option Notice) (after : List Notice) (n m : ℕ) → x ≡ get_or ys i x → entry_of y ≡ entry_of x → (InOrder (entries_of used ys) → found y.fate ≡ Some (judged s c today (entries_of used ys) (entry_of x))) → (InOrder (entries_of used ys) → taken ≡ takes_up c today (entries_of used ys) (entry_of x)) → ((v : Option rules.Verdict) → found y.fate ≡ Some v → option_map notice_told o ≡ notice_by (entry_of x) v) → Noted zs sent o after n → m ≡ pairs + cond taken 1 0 → Passed s c today used xs (slice_set ys i y) ws after n m (i + 1)
+  pub turn : (x y : Row) (taken : Bool) (o : Option Notice) (after : List Notice) (n m : ℕ) → x ≡ get_or ys i x → entry_of y ≡ entry_of x → (InOrder (entries_of used ys) → found y.fate ≡ Some (judged s c today (entries_of used ys) (entry_of x))) → (InOrder (entries_of used ys) → taken ≡ takes_up c today (entries_of used ys) (entry_of x)) → option_map notice_told o ≡ notice_found (entry_of x) (found y.fate) → Noted zs sent o after n → m ≡ pairs + cond taken 1 0 → Passed s c today used xs (slice_set ys i y) ws after n m (i + 1)
   turn x y taken o after n m at kept fate take_up told noted counted =
       let lt : i < length xs = omega arith in
       let one : entry_of (get_or xs i x) ≡ entry_of x = ap entry_of (row_ahead xs ys i x p.ahead ∙ sym at) in
@@ -122,7 +122,7 @@ module _ {s : Meaning} {c : Close} {today used : ℕ} {xs ys : List Row} {ws zs 
         fates = λ up. fates_on xs ys i x y p.count lt at kept (judged s c today (entries_of used xs)) p.ahead (verdict up) (p.fates up);
         notices = λ up.
             let f = notice_of s c today (entries_of used xs) in
-            noted_told ws zs after sent n i f (entries_of i xs) (entry_of x) o (omega (arith, p.few, p.places)) noted (told _ (verdict up)) (p.notices up) ∙ ap (filter_map f) (sym more);
+            noted_told ws zs after sent n i f (entries_of i xs) (entry_of x) o (omega (arith, p.few, p.places)) noted (told ∙ ap (notice_found (entry_of x)) (verdict up)) (p.notices up) ∙ ap (filter_map f) (sym more);
         pairs_counted = λ up.
             let f = takes_up c today (entries_of used xs) in
             let t = subst (λ (es : List Entry). taken ≡ takes_up c today es (entry_of x)) same (take_up (as_before up)) in

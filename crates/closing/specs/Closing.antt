@@ -4,6 +4,7 @@ use Rattle.std.specs.List.{AllByRecursion}
 use Rattle.business.specs.BusinessDays.{day_no}
 use Rattle.business.specs.declared.business_day.BusinessDay.{BusinessDay}
 use Rattle.judging.specs.Lines.{notice_told}
+use Rattle.refusals.specs.Words.{parts_of}
 use Rattle.refusals.specs.declared.refusal.Refusal.{Refusal}
 use Rattle.rows.specs.Blank.{IsBlank}
 use Rattle.rows.specs.declared.notice.Notice.{Notice}
@@ -16,7 +17,7 @@ use Rattle.sheets.specs.Sheets.{Meaning}
 use Rattle.closing.specs.declared.table_close.Closed.{Closed}
 
 abbrev pub close_answer : Result Closed Refusal → List Notice → Answer
-close_answer (Err refusal) zs = refused refusal
+close_answer (Err refusal) zs = refused (parts_of refusal)
 close_answer (Ok c) zs = closed (map notice_told (take c.notices zs)) c.pairs (day_no c.next_day)
 
 abbrev pub day_after : BusinessDay → Result Closed Refusal → BusinessDay

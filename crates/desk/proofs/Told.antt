@@ -13,7 +13,7 @@ pub count_told : (notices : List Notice) → length (map notice_told notices) �
 count_told notices = length-map notices notice_told
 
 abbrev line : rules.Notice → List ℕ
-line n = told_line n.key n.state n.findings
+line n = told_line n.key n.says
 
 pub as_told : (notices : List Notice) → lines_text (map notice_told notices) ≡ notices_text notices
 as_told notices = ap concat (map-map line notice_told notices)

@@ -2,7 +2,7 @@
 use Rattle.std.specs.Prelude.{◌≡◌, ℕ, List, ◌++◌, codes, decimal, length, map, Result, ⊤}
 use Rattle.std.specs.List.{concat}
 use Rattle.calendar.specs.Text.{date_text}
-use Rattle.refusals.specs.Words.{parts_of, refusal_text}
+use Rattle.refusals.specs.Words.{refusal_text}
 use Rattle.refusals.specs.declared.refusal.Refusal.{Refusal}
 use Rattle.rows.specs.declared.notice.Notice.{Notice as Place}
 use Rattle.rows.specs.declared.state.State.{State}
@@ -18,20 +18,20 @@ use Rattle.book_texts.specs.Lines.{rows_text, shown_text, told_line}
 
 -- a line for each notice
 abbrev pub lines_text : List Notice → List ℕ
-lines_text notices = concat (map (λ n. told_line n.key n.state n.findings) notices)
+lines_text notices = concat (map (λ n. told_line n.key n.says) notices)
 
 -- what is told of an answer
 abbrev pub answer_text : Answer → List ℕ
-answer_text (refused refusal) = refusal_text (parts_of refusal)
+answer_text (refused told) = refusal_text told
 answer_text accepted = codes "accepted"
 answer_text (closed notices pairs day) = decimal (length notices) ++ (codes " notices, " ++ (decimal pairs ++ (codes " pairs taken up, next day " ++ (date_text day ++ lines_text notices))))
-answer_text (shows s) = shown_text s.0 s.1
+answer_text (shows s) = shown_text s
 
 -- the report that a slip's bytes are was taken or refused, and that is told
 abbrev pub TellsReport : List ℕ → Book → Book → List ℕ → Type 0
 TellsReport bytes old new text = (result : Result ⊤ Refusal) × (Reports bytes old new result × (text ≡ answer_text (report_answer result)))
 
--- the day was closed, or that was refused, and it is told; ws and zs are the places for notices, as many as the close has
+-- the day was closed, or that was refused, and it is told; ws and zs are the places for notices before and after
 abbrev pub TellsClose : Meaning → Close → Book → Book → List ℕ → Type 0
 TellsClose sheet c old new text = (ws : List Place) × (zs : List Place) × (result : Result (ℕ × ℕ × BusinessDay) Refusal) × (Closes sheet c old new ws zs result × (text ≡ answer_text (close_answer result zs)))
 

@@ -1,5 +1,5 @@
 // Calls on a book, and what is told of each.
-ghost use Rattle.std.specs.Prelude.{◌≡◌, IfOk, OnErr, map, min, string_bytes};
+ghost use Rattle.std.specs.Prelude.{◌≡◌, IfOk, map, min, string_bytes};
 ghost use Rattle.business.specs.BusinessDays.{day_no};
 ghost use Rattle.closing.specs.Lists.{lists_of};
 ghost use Rattle.judging.specs.Lines.{notice_told};
@@ -13,7 +13,6 @@ use book_texts::shown::shown_text;
 use business::business_day::BusinessDay;
 use codes::code::{Country, Lei};
 use rows::notice::Notice;
-use rows::row::Row;
 use rules::room::MOST_ROWS;
 use sheets::comparing::PLACES;
 use sheets::finding::Finding;
@@ -27,19 +26,6 @@ pub fn report_slip(alloc: Global, book: &mut Book<'_>, slip: &[u8]) -> Result<St
     match book.report(slip) {
         Ok(()) => format!(in alloc; "accepted"),
         Err(refusal) => format!(in alloc; "{refusal}"),
-    }
-}
-
-// A place that no notice has taken yet.
-fn blank_notice() -> Notice {
-    let row = Row::blank();
-    let key = row.key;
-    let state = row.state;
-    let findings = row.findings;
-    Notice {
-        key,
-        state,
-        findings,
     }
 }
 
@@ -70,7 +56,7 @@ pub fn close_day<S: Sheet>(
 ) -> Result<String, AllocError>
     ensures { IfOk result (λ s. TellsClose (S.meaning sheet.now) (lists_of parties.now countries.now (min places 4096)) book.old book.new (string_bytes s)) }
 {
-    let mut notices = vec![in alloc; blank_notice(); places.min(MOST_ROWS)]?;
+    let mut notices = vec![in alloc; Notice::blank(); places.min(MOST_ROWS)]?;
     let notices = notices.as_mut_slice();
     match book.close(sheet, parties, countries, notices) {
         Ok((sent, pairs, next_day)) => {

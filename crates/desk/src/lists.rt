@@ -1,15 +1,17 @@
 // The program's own lists: the register of LEIs and the countries.
-ghost use Rattle.std.specs.Prelude.{◌≡◌, ◌++◌, codes, decimal, IfOk, IfErr, OnOk, OnErr, Ok, Err, alloc_error, map, string_bytes, vec_items};
+ghost use Rattle.std.specs.Prelude.{◌≡◌, ◌++◌, codes, decimal, IfOk, IfErr, OnOk, OnErr, Ok, Err, alloc_error, map, string_bytes, vec_items, Some};
 ghost use Rattle.refusals.specs.Words.{parts_of};
 ghost use Rattle.codes.specs.Codes.{text_of};
 ghost use Rattle.desk.specs.Lists.{countries_read, list_after, list_text, parties_read};
-ghost use Rattle.desk.specs.Refused.{IfRefused};
+ghost use Rattle.desk.specs.Refused.{IfRefused, error_text};
 ghost use Rattle.desk.specs.declared.lists.ListError.TheVariants.{OutOfMemory, Refused};
 
 use codes::code::{Country, Lei};
 use codes::host::{list_country, register_lei};
 use refusals::refusal::Refusal;
 use std::alloc::{AllocError, AllocFailed, Global};
+use std::error::Error;
+use std::fmt;
 
 // Why no codes were read.
 #[derive(Debug, Drop)]
@@ -33,6 +35,19 @@ impl<T: Drop> From<AllocFailed<T>> for ListError {
         ListError::OutOfMemory(AllocError::from(failed))
     }
 }
+
+impl fmt::Display for ListError {
+    ghost output = { λ e. Some (error_text e) };
+
+    fn fmt<W: fmt::Write>(&self, f: &mut fmt::Formatter<W>) -> fmt::Result {
+        match self {
+            ListError::Refused(refusal) => write!(f, "{refusal}"),
+            ListError::OutOfMemory(_) => write!(f, "out of memory"),
+        }
+    }
+}
+
+impl Error for ListError {}
 
 // The LEIs that words are, in their order.
 fn read_parties(alloc: Global, words: &[Vec<u8>]) -> Result<Vec<Lei>, ListError>

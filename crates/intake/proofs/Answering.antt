@@ -5,6 +5,7 @@ use Rattle.std.proofs.lemmas.Bool.{leb-true}
 use Rattle.std.proofs.lemmas.List.{get_or_default, length-map, length-take-le, set-get_or}
 use Rattle.business.specs.BusinessDays.{day_no}
 use Rattle.business.specs.declared.business_day.BusinessDay.{BusinessDay}
+use Rattle.refusals.specs.Words.{parts_of}
 use Rattle.refusals.specs.declared.refusal.Refusal.{Refusal}
 use Rattle.refusals.specs.declared.refusal.Refusal.TheVariants.{DatedAhead, SameParty}
 use Rattle.report.specs.declared.report.Report.{Report}
@@ -15,7 +16,7 @@ use Rattle.rows.specs.Days.{ahead}
 use Rattle.rows.specs.Changes.{IsAmended}
 use Rattle.rows.specs.Entries.{Entry, amended, entered, entry_of}
 use Rattle.rows.specs.Keys.{key_in, key_of, key_order}
-use Rattle.rows.specs.Standings.{enters, takes}
+use Rattle.rows.specs.Standings.{enters, taken}
 use Rattle.rows.specs.declared.key.TradeKey.{TradeKey}
 use Rattle.rows.specs.declared.row.Row.{Row}
 use Rattle.rows.specs.declared.standing.Standing.{Standing}
@@ -40,11 +41,6 @@ not_le m n lt = go (nat_le m n) refl
 full_of : (xs : List Row) (used : ℕ) → length (entries_of (used_of used xs) xs) ≡ used_of used xs
 full_of xs used = length-map (take (used_of used xs) xs) entry_of ∙ length-take-le (used_of used xs) xs (omega arith)
 
-taken : (e : Entry) (r : Report) (o p : Option Standing) (standing : Standing) → o ≡ None → p ≡ Some standing → at_entry e r o p ≡ Ok (amended e r standing)
-taken e r None (Some t) standing p q = ap (λ s. Ok (amended e r s)) (cc)
-taken e r None None standing p q = absurd (cc)
-taken e r (Some s) o standing p q = absurd (cc)
-
 entering : (full : Bool) (today : ℕ) (r : Report) (o : Option Standing) (standing : Standing) → full ≡ false → o ≡ Some standing → at_new_key full today r o ≡ Ok (entered today r standing)
 entering false today r (Some t) standing p q = ap (λ s. Ok (entered today r s)) (cc)
 entering true today r (Some t) standing p q = absurd (cc)
@@ -52,7 +48,7 @@ entering full today r None standing p q = absurd (cc)
 
 module _ (today : BusinessDay) (used : ℕ) (xs : List Row) (r : Report) where
   -- a refusal leaves the book
-  refusing : (refusal : Refusal) (ys : List Row) → ys ≡ xs → received (book_of today used xs) (Ok r) ≡ Err refusal → (sheet : Meaning) → Gives sheet (book_of today used xs) (report (Ok r)) (refused refusal) (book_of today used ys)
+  refusing : (refusal : Refusal) (ys : List Row) → ys ≡ xs → received (book_of today used xs) (Ok r) ≡ Err refusal → (sheet : Meaning) → Gives sheet (book_of today used xs) (report (Ok r)) (refused (parts_of refusal)) (book_of today used ys)
   refusing refusal ys same e sheet = record { answers = ap answer_of e; leaving = ap (after_report (book_of today used xs)) e ∙ ap (book_of today used) (sym same) }
 
   -- an entry that was accepted stands in it at its place
@@ -85,7 +81,7 @@ module _ (today : BusinessDay) (used : ℕ) (xs : List Row) (r : Report) (key : 
     refuses refusal a =
         let same : set xs at new ≡ xs = ap (set xs at) a.1 ∙ set-get_or xs at d in
         record {
-          gives = λ up. refusing today used xs r refusal (set xs at new) same (found (Some (entry_of (get_or xs at d))) (located.found up d) ∙ a.0);
+          gives = λ up. refusing today used xs r refusal (set xs at new) same (found (Some (entry_of (get_or xs at d))) (located.found up d) ∙ ap (at_entry (entry_of (get_or xs at d)) r) a.0);
           frame = same;
         }
 
@@ -93,7 +89,7 @@ module _ (today : BusinessDay) (used : ℕ) (xs : List Row) (r : Report) (key : 
     amends u a =
         let old = get_or xs at d in
         let entries = entries_of (used_of used xs) xs in
-        let held : entry_of new ≡ amended (entry_of old) r a.0 = a.1.1.1.entry in
+        let held : entry_of new ≡ amended (entry_of old) r a.0 = a.1.1.entry in
         let size = room_changed xs at new in
         let same : old ≡ get_or xs at new = get_or_default xs at d new (omega (arith, located.within)) in
         record {
@@ -101,10 +97,10 @@ module _ (today : BusinessDay) (used : ℕ) (xs : List Row) (r : Report) (key : 
               let k = ap (λ (e : Entry). e.key) held ∙ find_key (key_of key) entries (entry_of old) (located.found up d) in
               let stands = sym (located.stands up ∙ ap (λ k. place key_order (keys_in entries) k) (sym k)) in
               accepting today used xs r used (set xs at new) (entry_of new)
-              (found (Some (entry_of old)) (located.found up d) ∙ taken (entry_of old) r (enters r.action) (takes old.standing r.action) a.0 a.1.0 a.1.1.0 ∙ ap Ok (sym held))
+              (found (Some (entry_of old)) (located.found up d) ∙ ap (at_entry (entry_of old) r) a.1.0 ∙ ap Ok (sym held))
               size
               (put_there (entry_of new) entries at stands ∙ sym (entries_changed (used_of used xs) at xs new) ∙ ap (λ n. entries_of (min used n) (set xs at new)) (sym size));
-          frame = inl (record { at = at; row = new; standing = a.0; within = located.within; count = refl; rows = refl; takes = subst (λ (x : Row). takes x.standing r.action ≡ Some a.0) same a.1.1.0; is_amended = subst (λ (x : Row). IsAmended x r a.0 new) same a.1.1.1 });
+          frame = inl (record { at = at; row = new; standing = a.0; within = located.within; count = refl; rows = refl; takes = subst (λ (x : Row). taken x.standing r.action ≡ Ok a.0) same a.1.0; is_amended = subst (λ (x : Row). IsAmended x r a.0 new) same a.1.1 });
         }
 
   -- ---- of a trade that has none

@@ -1,28 +1,28 @@
 -- What a report answers and leaves.
-use Rattle.std.specs.Prelude.{◌≡◌, ℕ, ◌+◌, ◌<◌, ◌≤◌, min, List, Ok, Err, Result, Some, None, slice_index_or, slice_set, ◌⊎◌, ⊤, nat_le}
+use Rattle.std.specs.Prelude.{◌≡◌, ℕ, ◌+◌, ◌<◌, ◌≤◌, min, List, Ok, Err, Result, Some, slice_index_or, slice_set, ◌⊎◌, ⊤, nat_le}
 use Rattle.business.specs.BusinessDays.{day_no}
 use Rattle.business.specs.declared.business_day.BusinessDay.{BusinessDay}
+use Rattle.refusals.specs.Words.{parts_of}
 use Rattle.refusals.specs.declared.refusal.Refusal.{Refusal}
 use Rattle.report.specs.declared.report.Report.{Report}
 use Rattle.sheets.specs.Sheets.{Meaning}
 use Rattle.table.specs.Changes.{entered as put_in}
 use Rattle.rows.specs.Changes.{IsAmended, IsEntered}
-use Rattle.rows.specs.Entries.{entry_of}
-use Rattle.rows.specs.Standings.{enters, takes}
+use Rattle.rows.specs.Standings.{enters, taken}
 use Rattle.rows.specs.declared.row.Row.{Row}
 use Rattle.rows.specs.declared.standing.Standing.{Standing}
-use Rattle.rules.specs.Books.{Answer, Gives, InOrder, accepted, at_entry, at_new_key, refused, report}
+use Rattle.rules.specs.Books.{Answer, Gives, InOrder, accepted, at_new_key, refused, report}
 use Rattle.rules.specs.Slices.{book_of, room}
 use Rattle.intake.specs.Places.{used_of}
 
 -- a later report changes a row to an entry, or is refused and leaves it
 abbrev pub AmendsTo : Row → Report → Row → Result ⊤ Refusal → Type 0
-AmendsTo old r new (Ok u) = (standing : Standing) × ((enters r.action ≡ None) × ((takes old.standing r.action ≡ Some standing) × IsAmended old r standing new))
-AmendsTo old r new (Err refusal) = (at_entry (entry_of old) r (enters r.action) (takes old.standing r.action) ≡ Err refusal) × (new ≡ old)
+AmendsTo old r new (Ok u) = (standing : Standing) × ((taken old.standing r.action ≡ Ok standing) × IsAmended old r standing new)
+AmendsTo old r new (Err refusal) = (taken old.standing r.action ≡ Err refusal) × (new ≡ old)
 
 -- the answer to a report
 abbrev pub report_answer : {X : Type 0} → Result X Refusal → Answer
-report_answer (Err refusal) = refused refusal
+report_answer (Err refusal) = refused (parts_of refusal)
 report_answer (Ok x) = accepted
 
 abbrev pub used_after : ℕ → Result ℕ Refusal → ℕ
@@ -37,7 +37,7 @@ pub record Changed (used : ℕ) (xs : List Row) (r : Report) (n : ℕ) (ys : Lis
   pub within : at < used_of used xs
   pub count : n ≡ used
   pub rows : ys ≡ slice_set xs at row
-  pub takes : takes (slice_index_or xs at row).standing r.action ≡ Some standing
+  pub takes : taken (slice_index_or xs at row).standing r.action ≡ Ok standing
   pub is_amended : IsAmended (slice_index_or xs at row) r standing row
 
 -- one row was entered at its place, and those from there on moved up by one

@@ -17,13 +17,8 @@ use table::insertion::insert_at;
 fn amend(row: &mut Row, report: &Report) -> Result<(), Refusal>
     ensures { AmendsTo row.old report.now row.new result }
 {
-    if Standing::entered_by(report.action).is_some() {
-        return Err(Refusal::AlreadyEntered);
-    }
-    let standing = row
-        .standing
-        .after(report.action)
-        .ok_or(Refusal::StandingForbids)?;
+    row.take_action(report.action)?;
+    let standing = row.standing;
     *row = row.amended(report, standing);
     Ok(())
 }

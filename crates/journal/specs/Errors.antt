@@ -1,4 +1,5 @@
--- What keeps a word from being read.
+-- What keeps a word from being read, and the words that tell it.
+use Rattle.std.specs.Prelude.{ℕ, List, ◌++◌, codes, string_bytes}
 use Rattle.journal.specs.declared.escapes.WordError.{WordError}
 use Rattle.journal.specs.declared.escapes.WordError.TheVariants.{BadEscape, OutOfMemory}
 
@@ -6,3 +7,7 @@ use Rattle.journal.specs.declared.escapes.WordError.TheVariants.{BadEscape, OutO
 abbrev pub IfBadEscape : WordError → Type 0 → Type 0
 IfBadEscape (BadEscape word) P = P
 IfBadEscape (OutOfMemory error) P = Unit {0}
+
+abbrev pub error_text : WordError → List ℕ
+error_text (BadEscape word) = codes "bad escape in " ++ string_bytes word
+error_text (OutOfMemory error) = codes "out of memory"

@@ -1,12 +1,14 @@
 // Escapes in words, read and written.
 ghost use Rattle.std.specs.Prelude.{◌≡◌, ◌<◌, ◌++◌, length, alloc_error, IfSome, IfOk, IfErr, Some, None, string_bytes, MatchOption, OnOk};
 ghost use Rattle.journal.specs.Escapes.{EscapesAreSafe, before, decoded, escaped, escaped_byte, hex_value, plain};
-ghost use Rattle.journal.specs.Errors.{IfBadEscape};
+ghost use Rattle.journal.specs.Errors.{IfBadEscape, error_text};
 ghost use Rattle.journal.specs.declared.escapes.WordError.TheVariants.{OutOfMemory};
 
 use std::alloc::{AllocError, AllocFailed, Global};
+use std::error::Error;
+use std::fmt;
 
-// Why a word was not decoded. It prints nothing by itself: a caller tells it among faults of its own.
+// Why a word was not decoded.
 #[derive(Debug, Drop)]
 pub enum WordError {
     // the word, as it may be printed
@@ -29,6 +31,19 @@ impl<T: Drop> From<AllocFailed<T>> for WordError {
         WordError::OutOfMemory(AllocError::from(failed))
     }
 }
+
+impl fmt::Display for WordError {
+    ghost output = { λ e. Some (error_text e) };
+
+    fn fmt<W: fmt::Write>(&self, f: &mut fmt::Formatter<W>) -> fmt::Result {
+        match self {
+            WordError::BadEscape(word) => write!(f, "bad escape in {word}"),
+            WordError::OutOfMemory(_) => write!(f, "out of memory"),
+        }
+    }
+}
+
+impl Error for WordError {}
 
 // The value of a hexadecimal digit, in capitals or not.
 pub fn hex_value(digit: u8) -> Option<u8>

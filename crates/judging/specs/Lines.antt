@@ -2,13 +2,15 @@
 use Rattle.std.specs.Prelude.{ℕ, List, map, take, Some, None, Option}
 use Rattle.codes.specs.Codes.{text_of}
 use Rattle.registers.specs.declared.Registers.{Registers}
+use Rattle.rows.specs.Entries.{Entry}
 use Rattle.rows.specs.Keys.{key_of}
+use Rattle.rows.specs.Words.{told}
 use Rattle.rows.specs.declared.notice.Notice.{Notice}
 use Rattle.rows.specs.declared.row.Fate.{Fate}
 use Rattle.rows.specs.declared.row.Fate.TheVariants.{Open, Freed, Stays}
 use Rattle.rows.specs.declared.row.Verdict.{Verdict}
 use Rattle.rules.specs.Judging as rules
-use Rattle.rules.specs.Judging.{Close, gone, early, outside, lapsed, ready}
+use Rattle.rules.specs.Judging.{Close, gone, early, outside, lapsed, notice_by, ready}
 use Rattle.judging.specs.declared.line.Line.{Line}
 use Rattle.judging.specs.declared.line.Line.TheVariants.{Gone, Early, Outside, Lapsed, Ready}
 
@@ -38,5 +40,11 @@ found Open = None
 found Freed = Some None
 found (Stays v) = Some (Some (verdict_of v))
 
+-- the notice that a row gives by what was found of it; none where it was not judged
+abbrev pub notice_found : Entry → Option (Option rules.Verdict) → Option rules.Notice
+notice_found e None = None
+notice_found e (Some v) = notice_by e v
+
+-- a notice as it is told
 abbrev pub notice_told : Notice → rules.Notice
-notice_told n = record { key = key_of n.key; state = n.state; findings = n.findings }
+notice_told n = record { key = key_of n.key; says = told n.state n.findings }

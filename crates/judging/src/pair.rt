@@ -30,6 +30,7 @@ fn pair_findings<S: Sheet>(sheet: &S, row: &Row, mirror: &Row) -> [Finding; PLAC
 }
 
 // What is found of a row whose mirror may be paired too.
+#[tactic(auto, using(sheets::proofs::Named::one_state))]
 pub fn paired<S: Sheet>(sheet: &S, row: &Row, mirror: &Row) -> Judged
     ensures fate { found result.fate ≡ Some (Some (paired_with (S.meaning sheet.now) (pair_findings (S.meaning sheet.now) (entry_of row.now) (entry_of mirror.now)))) }
     ensures taken_up { result.is_taken_up ≡ (not (stays_paired (entry_of row.now) (entry_of mirror.now)) && comes_first (entry_of row.now) (entry_of mirror.now)) }

@@ -1,8 +1,10 @@
 -- A report that was read is written as its texts, with short amounts.
-use Rattle.std.proofs.Common.{Bool, false, ◌≡◌, ℕ, ◌≤◌, true, cond, List, length, take, nat_le, Some, None, Option, Ok, Result, IsOk, refl, ap, sym, ◌∙◌, subst, arith}
+use Rattle.std.proofs.Common.{Bool, false, ◌≡◌, ℕ, ◌≤◌, true, cond, List, length, take, nat_le, Some, None, Option, Ok, Err, Result, IsOk, refl, ap, sym, ◌∙◌, arith}
 use Rattle.std.proofs.lemmas.Bool.Decides.{nat_tests}
+use Rattle.std.specs.Result.{result_map_both}
 use Rattle.hex.specs.Hex.{encode_upper}
 use Rattle.listings.specs.Rewritten.{refused_or_written, rewritten_text}
+use Rattle.refusals.specs.Words.{parts_of}
 use Rattle.refusals.specs.declared.refusal.Refusal.{Refusal}
 use Rattle.report.specs.Judging.{fields_told, refusal_of}
 use Rattle.report.specs.Texts.{text_in}
@@ -14,8 +16,12 @@ use Rattle.slip_writer.specs.Written.{or_short, slip_of}
 use Rattle.texts.specs.Buffers.{answered, filled}
 
 -- a buffer with room is not too short
-pub room_is_enough : (text buffer : List ℕ) (r : Result ℕ Refusal) → r ≡ or_short (answered text buffer) → length text ≤ length buffer → IsOk r
-room_is_enough text buffer r e l = let t : nat_le (length text) (length buffer) ≡ true = grind (arith, nat_tests) in subst IsOk (sym (e ∙ ap (λ b. or_short (cond b (Some (length text)) None)) t)) refl
+pub room_is_enough : (text buffer : List ℕ) (r : Result ℕ Refusal) → result_map_both (λ n. n) parts_of r ≡ or_short (answered text buffer) → length text ≤ length buffer → IsOk r
+room_is_enough text buffer (Ok n) e l = refl
+room_is_enough text buffer (Err refusal) e l =
+    let t : nat_le (length text) (length buffer) ≡ true = grind (arith, nat_tests) in
+    let k : Err (parts_of refusal) ≡ Ok (length text) = e ∙ ap (λ b. or_short (cond b (Some (length text)) None)) t in
+    absurd (cc)
 
 answered_by : (o : Option ℕ) (n : ℕ) → Ok n ≡ or_short o → o ≡ Some n
 answered_by None n e = absurd (cc)

@@ -5,13 +5,16 @@ use Rattle.refusals.specs.Words.{parts_of, refusal_text}
 use Rattle.refusals.specs.declared.refusal.Refusal.{Refusal}
 use Rattle.report.specs.Laws.{ReadAs}
 use Rattle.report.specs.declared.report.Report.{Report}
-use Rattle.sheets.specs.Findings.{finding_number, state_text}
+use Rattle.sheets.specs.Findings.{finding_numbers, state_text}
 use Rattle.sheets.specs.Sheets.{Meaning, findings_of, state_of}
 use Rattle.sheets.specs.declared.finding.Finding.{Finding}
 
 -- a digit for each finding
+abbrev pub digits_text : List ℕ → List ℕ
+digits_text numbers = concat (map decimal numbers)
+
 abbrev pub findings_text : List Finding → List ℕ
-findings_text findings = concat (map (λ f. decimal (finding_number f)) findings)
+findings_text findings = digits_text (finding_numbers findings)
 
 -- the state and the findings of two reports under a sheet, or the refusal of the second
 abbrev pub compared_text : Meaning → Report → Result Report Refusal → List ℕ

@@ -2,8 +2,7 @@
 use Rattle.std.proofs.Common.{◌≡◌, ℕ, Bool, true, false, List, ◌++◌, codes, Some, None, Option, String, string_bytes, refl, ap, ◌∙◌}
 use Rattle.std.specs.Prelude.{decimal}
 use Rattle.std.specs.declared.alloc.Global.{Global}
-use Rattle.verbs.specs.Answers.{Keeps, Said, SaysOrPasses, nothing, text, compared, reported, shut, looked, no_call}
-use Rattle.verbs.specs.declared.shelf.Shelf.{Shelf}
+use Rattle.verbs.specs.Answers.{Said, SaysOrPasses, nothing, text, compared, reported, shut, looked, no_call}
 use Rattle.verbs.specs.Faults.{IfNoCall}
 use Rattle.verbs.specs.declared.fault.Fault.{Fault}
 use Rattle.verbs.specs.declared.fault.Fault.TheVariants.{NoVerb, UnknownVerb, WordCount, BadEscape, BadHex, BadNumber, NoSlip, NoBook, OutOfMemory}
@@ -35,16 +34,6 @@ is_called (reported bytes old new) answer s = refl
 is_called (shut sheet c old new) answer s = refl
 is_called (looked b trade reporter other) answer s = refl
 is_called no_call answer s = absurd s
-
--- a book that is the same is kept, whatever is said
-pub kept : (said : Said) (old new : Shelf) → new ≡ old → Keeps said old new
-kept nothing old new e = e
-kept (text t) old new e = e
-kept (compared sheet first second) old new e = e
-kept (reported bytes b c) old new e = tt
-kept (shut sheet lists b c) old new e = tt
-kept (looked b trade reporter other) old new e = e
-kept no_call old new e = e
 
 abbrev pub is_memory : Fault → Bool
 is_memory NoVerb = false

@@ -4,13 +4,15 @@ ghost use Rattle.std.specs.Option.{option_map};
 ghost use Rattle.verbs.specs.Answers.{Keeps, answer_of};
 ghost use Rattle.verbs.specs.Chosen.{after_line};
 ghost use Rattle.verbs.specs.Settings.{setting_of};
+ghost use Rattle.verbs.specs.Shelves.{Lawful};
 ghost use Rattle.built_sheets.specs.Chosen.{chosen};
 ghost use Rattle.recon.specs.Runs.{Prints, is_call};
 
+use crate::source::Source;
 use built_sheets::chosen::ChosenSheet;
 use built_sheets::kdpw::KdpwSheet;
 use desk::opening::Opening;
-use journal::lines::Lines;
+use journal::lines::first_line;
 use std::alloc::{AllocError, Global};
 use std::io::Write;
 use verbs::answers::answer_line;
@@ -23,8 +25,8 @@ use verbs::shelf::Shelf;
 pub struct Run {
     // lines so far, in all files together
     lines: u64,
-    // whether every line so far was a call or one to pass over, and every file could be read: a flag and no
-    // `Result`, since lines are counted and run after a fault too
+    // whether every line so far was a call or one to pass over: a flag and no `Result`, since lines are counted and run
+    // after a fault too
     clean: bool,
     // for the calls that follow
     settings: Settings,
@@ -54,8 +56,8 @@ impl Run {
         self.clean
     }
 
-    // Notes that a line was no call, or that a file could not be read.
-    pub fn mark_failed(&mut self)
+    // Notes that a line was no call.
+    fn mark_failed(&mut self)
         ensures lines { self.new.lines ≡ self.old.lines }
         ensures clean { self.new.clean ≡ false }
         ensures settings { self.new.settings ≡ self.old.settings }
@@ -64,7 +66,7 @@ impl Run {
     }
 
     // Takes the next line, and gives what is printed of it.
-    #[tactic(auto, using(crate::proofs::Printing::prints_none, crate::proofs::Printing::prints_some, crate::proofs::Printing::is_called, crate::proofs::Printing::kept))]
+    #[tactic(auto, using(crate::proofs::Printing::prints_none, crate::proofs::Printing::prints_some, crate::proofs::Printing::is_called, verbs::proofs::Saying::kept))]
     fn step(
         &mut self,
         alloc: Global,
@@ -76,6 +78,7 @@ impl Run {
         ensures status { OnOk result (self.new.clean ≡ (self.old.clean && is_call (answer_of (chosen self.old.settings.sheet) (setting_of self.old.settings) shelf.old shelf.new line.now))) }
         ensures settings { OnOk result (setting_of self.new.settings ≡ after_line (setting_of self.old.settings) line.now) }
         ensures book { OnOk result (Keeps (answer_of (chosen self.old.settings.sheet) (setting_of self.old.settings) shelf.old shelf.new line.now) shelf.old shelf.new) }
+        ensures law { OnOk result (Lawful shelf.old → Lawful shelf.new) }
     {
         self.lines = self.lines.saturating_add(1);
         let number = self.lines;
@@ -90,17 +93,30 @@ impl Run {
         }
     }
 
-    // Runs lines up to one that opens a book, and tells how it is to be opened: none at the end of the journal.
+    // Runs lines up to one that opens a book, and tells how it is to be opened: none at the end of the journal. What a line
+    // is answered is written before the next one is waited for. The book is one that runs under its own sheet, and still is.
     pub fn run_lines<W: Write>(
         &mut self,
-        alloc: Global,
+        rt: &HostRuntime,
         out: &mut W,
         shelf: &mut Shelf<'_>,
-        lines: &mut Lines<'_>,
-    ) -> anyhow::Result<Option<Opening>> {
-        for line in lines {
-            if let Some(text) = self.step(alloc, shelf, line)? {
-                writeln!(out, "{text}")?;
+        source: &mut Source,
+    ) -> anyhow::Result<Option<Opening>>
+        requires { Lawful shelf.old }
+        ensures law { OnOk result (Lawful shelf.new) }
+    {
+        let mut line = Vec::new(rt.alloc());
+        'lines: for _ in 0..u64::MAX {
+            if source.is_awaited() {
+                out.flush()?;
+            }
+            line.clear();
+            if !source.next_line(rt, &mut line)? {
+                break;
+            }
+            let (text, _) = first_line(line.as_slice());
+            if let Some(told) = self.step(rt.alloc(), shelf, text)? {
+                writeln!(out, "{told}")?;
             }
             let asked = self.settings.opening.take();
             if asked.is_some() {

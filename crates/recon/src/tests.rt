@@ -202,7 +202,7 @@ const NOT_ON_BOOK: &[(&[u8], &str)] = &[
 fn calls_on_a_book_are_answered(rt: HostRuntime) -> Result<(), Fail> {
     let alloc = rt.alloc();
     let mut rows = [Row::blank()];
-    let opening = Opening::read(b"2020-08-03", 1)?;
+    let opening = Opening::read(&ChosenSheet::Kdpw(KdpwSheet), b"2020-08-03", 1)?;
     let mut shelf = Shelf::Holds(opening.open(&mut rows));
     let mut settings = settings(alloc);
     for call in ON_BOOK {

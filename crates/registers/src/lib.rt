@@ -3,6 +3,7 @@
 
 ghost use Rattle.std.specs.Prelude.{◌≡◌, Decides, IfOk, MatchResult, length, take};
 ghost use Rattle.codes.specs.Codes.{text_of};
+ghost use Rattle.refusals.specs.Words.{parts_of};
 ghost use Rattle.refusals.specs.declared.refusal.Refusal.TheVariants.{RegisterDisordered};
 ghost use Rattle.registers.specs.Listed.{InOrder, Lists};
 
@@ -26,7 +27,7 @@ pub fn check_registers<'r>(
     parties: &'r [Lei],
     countries: &'r [Country],
 ) -> Result<Registers<'r>, Refusal>
-    ensures judged { MatchResult result (λ _. InOrder parties.now × InOrder countries.now) (λ e. (e ≡ RegisterDisordered) × (InOrder parties.now → InOrder countries.now → ⊥)) }
+    ensures judged { MatchResult result (λ _. InOrder parties.now × InOrder countries.now) (λ e. (parts_of e ≡ parts_of RegisterDisordered) × (InOrder parties.now → InOrder countries.now → ⊥)) }
     ensures parties { IfOk result (λ r. (r.parties.used ≡ length parties.now) × (r.parties.rows.now ≡ parties.now)) }
     ensures countries { IfOk result (λ r. (r.countries.used ≡ length countries.now) × (r.countries.rows.now ≡ countries.now)) }
 {

@@ -3,4 +3,7 @@ pub mod Missing
 pub mod NeedsMet
 pub mod InTurn
 pub mod Letters
+pub mod Told
+pub mod Tags
 pub mod OneReport
+pub mod Naming

@@ -9,6 +9,9 @@ use Rattle.codes.proofs.CodeLaws.{one_form as one_code}
 use Rattle.fields.proofs.PartyLaws.{one_form as one_party}
 use Rattle.timestamps.proofs.Form.{one_form as one_timestamp}
 use Rattle.report.proofs.Letters.{one_action, one_compression, one_level, one_party_kind, one_price_notation, one_product_id_kind, one_side, one_underlying_kind}
+use Rattle.report.proofs.Naming.{bad_named, missing_named, numbers, slip_not_torn, torn, whole_read}
+use Rattle.report.proofs.Told.{same_refusal}
+use Rattle.refusals.specs.Words.{parts_of}
 use Rattle.refusals.specs.declared.refusal.Refusal.{Refusal}
 use Rattle.report.specs.Judging.{Texts, fields_told}
 use Rattle.report.specs.Laws.{ReadAs, ReportLaws}
@@ -116,7 +119,7 @@ pub one_answer : (bytes : List ℕ) (a b : Result Report Refusal) → ReadAs byt
 one_answer bytes (Ok r) (Ok q) s t = ap Ok (one_report (text_in (fields_told bytes)) r q s.0 t.0)
 one_answer bytes (Ok r) (Err f) s t = absurd (cc)
 one_answer bytes (Err e) (Ok q) s t = absurd (cc)
-one_answer bytes (Err e) (Err f) s t = ap Err (injective e f (s.1 ∙ sym t.1))
+one_answer bytes (Err e) (Err f) s t = ap Err (same_refusal e f (injective (parts_of e) (parts_of f) (s.1 ∙ sym t.1)))
 
 pub laws : ReportLaws
-laws = record { one_report = one_report; one_answer = one_answer }
+laws = record { one_report = one_report; one_answer = one_answer; missing_named = missing_named; bad_named = bad_named; numbers = numbers; torn = torn; whole_read = whole_read; slip_not_torn = slip_not_torn }

@@ -13,6 +13,7 @@ use Rattle.fields.specs.Letters.{letter_in}
 use Rattle.fields.specs.Parties.{party_in}
 use Rattle.fields.specs.declared.field.report.PartyKind.{PartyKind}
 use Rattle.fields.specs.declared.field.report.PartyKind.TheVariants.{Lei, Client}
+use Rattle.refusals.specs.Words.{RefusalParts, parts_of}
 use Rattle.refusals.specs.declared.refusal.Refusal.{Refusal}
 use Rattle.refusals.specs.declared.refusal.Refusal.TheVariants.{TornSlip, FieldMissing, BadField}
 use Rattle.refusals.specs.declared.tag.Tag.{Tag}
@@ -119,13 +120,13 @@ refusal_of_texts texts =
     (option_or (missing_field texts (needed_by (texts Action)))
     (option_map BadField (first_bad texts all_tags))))
 
--- the refusal of bytes that are no report; none of those that are one
 abbrev pub refusal_of_fields : Option (List FieldParts) → Option Refusal
 refusal_of_fields None = Some TornSlip
 refusal_of_fields (Some fields) = refusal_of_texts (text_in fields)
 
-abbrev pub refusal_of : List ℕ → Option Refusal
-refusal_of bytes = refusal_of_fields (fields_in bytes)
+-- the refusal of bytes that are no report, as its sender sees it; none of those that are one
+abbrev pub refusal_of : List ℕ → Option RefusalParts
+refusal_of bytes = option_map parts_of (refusal_of_fields (fields_in bytes))
 
 -- the fields that the bytes of a slip tell
 abbrev pub fields_told : List ℕ → List FieldParts

@@ -6,7 +6,7 @@ use Rattle.codes.specs.Codes.{text_of, text_order}
 use Rattle.codes.specs.Rules.{code_of}
 use Rattle.codes.specs.Values.{capitals_and_digits, trade_id_bytes}
 use Rattle.fields.specs.Parties.{party_parts}
-use Rattle.refusals.specs.declared.refusal.Refusal.{Refusal}
+use Rattle.refusals.specs.Words.{RefusalParts, parts_of}
 use Rattle.refusals.specs.declared.refusal.Refusal.TheVariants.{BadField}
 use Rattle.refusals.specs.declared.tag.Tag.{Tag}
 use Rattle.refusals.specs.declared.tag.Tag.TheVariants.{TradeId, ReportingCounterparty, OtherCounterparty}
@@ -36,12 +36,12 @@ key_of k = record { trade = text_of k.trade; reporter = text_of k.reporter; othe
 abbrev pub key_in : Parties → Key
 key_in p = record { trade = text_of p.trade; reporter = text_of p.reporter; other = (party_parts p.other).text }
 
-abbrev pub or_bad : {X Y : Type 0} → Tag → Option X → (X → Result Y Refusal) → Result Y Refusal
-or_bad tag None next = Err (BadField tag)
+abbrev pub or_bad : {X Y : Type 0} → Tag → Option X → (X → Result Y RefusalParts) → Result Y RefusalParts
+or_bad tag None next = Err (parts_of (BadField tag))
 or_bad tag (Some x) next = next x
 
 -- the key that three texts name; the first bad one is refused, in the order of the tags
-abbrev pub key_named : List ℕ → List ℕ → List ℕ → Result Key Refusal
+abbrev pub key_named : List ℕ → List ℕ → List ℕ → Result Key RefusalParts
 key_named trade reporter other =
     or_bad TradeId (code_of trade_id_bytes 1 52 trade) (λ t.
     or_bad ReportingCounterparty (code_of capitals_and_digits 20 20 reporter) (λ r.

@@ -1,7 +1,9 @@
 -- Which actions a row takes, and how it stands then.
-use Rattle.std.specs.Prelude.{Bool, true, false, Some, None, Option}
+use Rattle.std.specs.Prelude.{Bool, true, false, Some, None, Option, Ok, Err, Result}
 use Rattle.fields.specs.declared.field.report.Action.{Action}
 use Rattle.fields.specs.declared.field.report.Action.TheVariants.{New, PositionComponent, Modify, Correction, ValuationUpdate, EarlyTermination, Compression, Error}
+use Rattle.refusals.specs.declared.refusal.Refusal.{Refusal}
+use Rattle.refusals.specs.declared.refusal.Refusal.TheVariants.{AlreadyEntered, StandingForbids}
 use Rattle.rows.specs.declared.standing.Standing.{Standing}
 use Rattle.rows.specs.declared.standing.Standing.TheVariants.{Active, Ended, Withdrawn}
 
@@ -35,6 +37,16 @@ takes Ended EarlyTermination = None
 takes Ended Compression = None
 takes Ended Error = Some Withdrawn
 takes Withdrawn action = None
+
+-- what an action comes to at a row that is there: how the row stands then, or the refusal. One that enters rows comes too late
+-- at any of them.
+abbrev pub taken_by : Option Standing → Option Standing → Result Standing Refusal
+taken_by (Some standing) taking = Err AlreadyEntered
+taken_by None None = Err StandingForbids
+taken_by None (Some standing) = Ok standing
+
+abbrev pub taken : Standing → Action → Result Standing Refusal
+taken standing action = taken_by (enters action) (takes standing action)
 
 -- M and R replace what describes the trade, and let the row try again from the start
 abbrev pub replaces : Action → Bool

@@ -1,5 +1,7 @@
--- The words of states and standings.
-use Rattle.std.specs.Prelude.{ℕ, List, codes}
+-- The words of states and standings, and what is told of a row.
+use Rattle.std.specs.Prelude.{ℕ, List, codes, map}
+use Rattle.sheets.specs.Findings.{finding_number}
+use Rattle.sheets.specs.declared.finding.Finding.{Finding}
 use Rattle.sheets.specs.declared.finding.PairState.{PairState}
 use Rattle.sheets.specs.declared.finding.PairState.TheVariants as Pair
 use Rattle.rows.specs.declared.standing.Standing.{Standing}
@@ -26,3 +28,10 @@ abbrev pub standing_text : Standing → List ℕ
 standing_text Active = codes "active"
 standing_text Ended = codes "ended"
 standing_text Withdrawn = codes "withdrawn"
+
+-- what a row shows, as it is told: the word of its state, and the number of each finding
+abbrev pub Shown : Type 0
+Shown = List ℕ × List ℕ
+
+abbrev pub told : State → List Finding → Shown
+told state findings = (state_text state, map finding_number findings)

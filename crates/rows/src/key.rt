@@ -1,6 +1,7 @@
 // What a row is found by.
 ghost use Rattle.std.specs.Prelude.{◌≡◌};
 ghost use Rattle.std.specs.Result.{result_map_both};
+ghost use Rattle.refusals.specs.Words.{parts_of};
 ghost use Rattle.rows.specs.Keys.{key_in, key_named, key_of, mirror};
 
 use codes::code::{ClientCode, Lei, TradeId};
@@ -31,7 +32,7 @@ impl TradeKey {
 
     // The key that three texts name.
     pub fn read(trade: &[u8], reporter: &[u8], other: &[u8]) -> Result<TradeKey, Refusal>
-        ensures { result_map_both key_of (λ e. e) result ≡ key_named trade.now reporter.now other.now }
+        ensures { result_map_both key_of parts_of result ≡ key_named trade.now reporter.now other.now }
     {
         let Ok(trade) = TradeId::read(trade) else {
             return Err(Refusal::BadField(Tag::TradeId));

@@ -4,6 +4,7 @@ ghost use Rattle.std.specs.Prelude.{◌≡◌};
 pub mod blank;
 pub mod changes;
 pub mod keyed;
+pub mod taking;
 
 use crate::key::TradeKey;
 use crate::standing::Standing;

@@ -1,6 +1,6 @@
 // How a row stands, and which actions it takes.
 ghost use Rattle.std.specs.Prelude.{◌≡◌, Some};
-ghost use Rattle.rows.specs.Standings.{disturbs, enters, is_dated, replaces, takes};
+ghost use Rattle.rows.specs.Standings.{disturbs, enters, is_dated, replaces};
 ghost use Rattle.rows.specs.Words.{standing_text};
 
 use fields::field::report::Action;
@@ -25,22 +25,6 @@ impl Standing {
             Action::New => Some(Standing::Active),
             Action::PositionComponent => Some(Standing::Ended),
             _ => None,
-        }
-    }
-
-    // How a row stands after this action; none of an action that the row does not take.
-    pub fn after(self, action: Action) -> Option<Standing>
-        ensures { result ≡ takes self action }
-    {
-        match (self, action) {
-            (Standing::Active, Action::Modify | Action::Correction | Action::ValuationUpdate) =>
-                Some(Standing::Active),
-            (Standing::Active, Action::EarlyTermination | Action::Compression) => {
-                Some(Standing::Ended)
-            }
-            (Standing::Ended, Action::Correction) => Some(Standing::Ended),
-            (Standing::Active | Standing::Ended, Action::Error) => Some(Standing::Withdrawn),
-            (_, _) => None,
         }
     }
 }

@@ -30,11 +30,11 @@ const ACTIONS: [Action; 8] = [
     Action::Error,
 ];
 
-// How a row stands after each of the actions; a dash where it does not take one.
+// How a row stands after each of the actions, or the number with which it refuses one.
 const AFTER: [(Standing, &[u8]); 3] = [
-    (Standing::Active, b"--aaaeew"),
-    (Standing::Ended, b"---e---w"),
-    (Standing::Withdrawn, b"--------"),
+    (Standing::Active, b"66aaaeew"),
+    (Standing::Ended, b"668e888w"),
+    (Standing::Withdrawn, b"66888888"),
 ];
 
 // Three texts, and the one that is refused first.
@@ -122,7 +122,12 @@ fn a_row_takes_what_its_standing_allows(rt: HostRuntime) {
     }
     for (standing, after) in AFTER {
         for (action, expected) in ACTIONS.iter().zip(after) {
-            let found = letter(standing.after(*action));
+            let mut row = Row::blank();
+            row.standing = standing;
+            let found = match row.take_action(*action) {
+                Ok(()) => letter(Some(row.standing)),
+                Err(refusal) => b'0' + refusal.number(),
+            };
             assert!(rt; found == *expected, "{standing}");
         }
     }

@@ -1,15 +1,12 @@
--- What a row shows is told apart by the words of states and the numbers of findings.
-use Rattle.std.proofs.Common.{◌≡◌, ◌≢◌, ℕ, true, false, cond, ◌==◌, Decides, bytes_eq, codes, List, [], ◌∷◌, map, ◌∙◌, refl, sym, ap}
+-- States are told apart by their words, and what rows show is compared as it is told.
+use Rattle.std.proofs.Common.{◌≡◌, ◌≢◌, ℕ, true, false, cond, Decides, bytes_eq, codes, List, ◌∙◌, refl, sym, ap}
 use Rattle.std.proofs.lemmas.Slice.Eq.{bytes_eq-Decides}
 use Rattle.std.proofs.lemmas.Bool.{and_from, and_parts}
 use Rattle.std.proofs.lemmas.Bool.Decides.{not_from_Decides}
-use Rattle.sheets.specs.Findings.{finding_number}
-use Rattle.sheets.specs.declared.finding.Finding.{Finding}
-use Rattle.sheets.specs.declared.finding.Finding.TheVariants.{Differs, Matches, NotCompared}
-use Rattle.rows.specs.Words.{state_text}
+use Rattle.rows.specs.Words.{Shown, state_text}
 use Rattle.rows.specs.declared.state.State.{State}
 use Rattle.rows.specs.declared.state.State.TheVariants.{Err1, Err2, Gone, Laps, Mach, Npar, Outs, Wait}
-use Rattle.rules.specs.Judging.{Shown, same_findings, same_shown}
+use Rattle.rules.specs.Judging.{same_shown}
 
 -- the state of a word
 abbrev state_named : List ℕ → State
@@ -35,36 +32,20 @@ named_back Gone = refl
 pub one_state : (s t : State) → state_text s ≡ state_text t → s ≡ t
 one_state s t e = sym (named_back s) ∙ ap state_named e ∙ named_back t
 
--- the finding of a number
-abbrev finding_at : ℕ → Finding
-finding_at n = cond (n == 0) Matches (cond (n == 1) Differs NotCompared)
-
-numbered_back : (f : Finding) → finding_at (finding_number f) ≡ f
-numbered_back Matches = refl
-numbered_back Differs = refl
-numbered_back NotCompared = refl
-
-all_back : (fs : List Finding) → map finding_at (map finding_number fs) ≡ fs
-all_back [] = refl
-all_back (f ∷ fs) = λ i. numbered_back f i ∷ all_back fs i
-
-pub one_list : (a b : List Finding) → map finding_number a ≡ map finding_number b → a ≡ b
-one_list a b e = sym (all_back a) ∙ ap (map finding_at) e ∙ all_back b
-
 -- ---- both together
 
 pub same_shown_is : (a b : Shown) → same_shown a b ≡ true → a ≡ b
 same_shown_is a b h =
-    let parts = and_parts (bytes_eq (state_text a.0) (state_text b.0)) (same_findings a.1 b.1) h in
-    let state : a.0 ≡ b.0 = one_state a.0 b.0 ((bytes_eq-Decides (state_text a.0) (state_text b.0)).0 parts.0) in
-    let findings : a.1 ≡ b.1 = one_list a.1 b.1 ((bytes_eq-Decides (map finding_number a.1) (map finding_number b.1)).0 parts.1) in
-    λ i. (state i, findings i)
+    let parts = and_parts (bytes_eq a.0 b.0) (bytes_eq a.1 b.1) h in
+    let word : a.0 ≡ b.0 = (bytes_eq-Decides a.0 b.0).0 parts.0 in
+    let numbers : a.1 ≡ b.1 = (bytes_eq-Decides a.1 b.1).0 parts.1 in
+    λ i. (word i, numbers i)
 
 pub is_same_shown : (a b : Shown) → a ≡ b → same_shown a b ≡ true
 is_same_shown a b e =
-    and_from (bytes_eq (state_text a.0) (state_text b.0)) (same_findings a.1 b.1)
-    ((bytes_eq-Decides (state_text a.0) (state_text b.0)).1 (ap (λ (x : Shown). state_text x.0) e))
-    ((bytes_eq-Decides (map finding_number a.1) (map finding_number b.1)).1 (ap (λ (x : Shown). map finding_number x.1) e))
+    and_from (bytes_eq a.0 b.0) (bytes_eq a.1 b.1)
+    ((bytes_eq-Decides a.0 b.0).1 (ap (λ (x : Shown). x.0) e))
+    ((bytes_eq-Decides a.1 b.1).1 (ap (λ (x : Shown). x.1) e))
 
 pub shown_Decides : (a b : Shown) → Decides (same_shown a b) (a ≡ b)
 shown_Decides a b = (same_shown_is a b, is_same_shown a b)

@@ -4,17 +4,19 @@ use Rattle.std.specs.List.{count_by, filter_map, find}
 use Rattle.std.specs.Ordering.{match_ordering}
 use Rattle.std.specs.Str.{bytes_eq}
 use Rattle.business.specs.TargetDays.{next_business}
+use Rattle.refusals.specs.Words.{RefusalParts, parts_of}
 use Rattle.refusals.specs.declared.refusal.Refusal.{Refusal}
-use Rattle.refusals.specs.declared.refusal.Refusal.TheVariants.{AlreadyEntered, BookFull, CalendarEnds, DatedAhead, NoticeListShort, RegisterDisordered, SameParty, StandingForbids, UnknownTrade}
+use Rattle.refusals.specs.declared.refusal.Refusal.TheVariants.{BookFull, CalendarEnds, DatedAhead, NoticeListShort, RegisterDisordered, SameParty, UnknownTrade}
 use Rattle.report.specs.declared.report.Report.{Report}
 use Rattle.sheets.specs.Sheets.{Meaning}
 use Rattle.table.specs.Order.{Ascending}
 use Rattle.rows.specs.Days.{ahead}
 use Rattle.rows.specs.Entries.{Entry, amended, entered}
 use Rattle.rows.specs.Keys.{Key, key_in, key_order, same_key}
-use Rattle.rows.specs.Standings.{enters, takes}
+use Rattle.rows.specs.Standings.{enters, taken}
 use Rattle.rows.specs.declared.standing.Standing.{Standing}
-use Rattle.rules.specs.Judging.{Close, Notice, Shown, entry_after, notice_of, shown, takes_up}
+use Rattle.rows.specs.Words.{Shown}
+use Rattle.rules.specs.Judging.{Close, Notice, entry_after, notice_of, shown, takes_up}
 use Rattle.rules.specs.Lists.{in_order}
 
 pub record Book : Type 0 where
@@ -49,15 +51,14 @@ abbrev pub at_new_key : Bool → ℕ → Report → Option Standing → Result E
 at_new_key full today r None = Err UnknownTrade
 at_new_key full today r (Some standing) = if full then Err BookFull else Ok (entered today r standing)
 
--- and of one whose key has an entry: by how it would enter, and by how the entry stands once it has taken it
-abbrev pub at_entry : Entry → Report → Option Standing → Option Standing → Result Entry Refusal
-at_entry e r (Some standing) taken = Err AlreadyEntered
-at_entry e r None None = Err StandingForbids
-at_entry e r None (Some standing) = Ok (amended e r standing)
+-- and of one whose key has an entry: by what its action comes to there
+abbrev pub at_entry : Entry → Report → Result Standing Refusal → Result Entry Refusal
+at_entry e r (Err refusal) = Err refusal
+at_entry e r (Ok standing) = Ok (amended e r standing)
 
 abbrev pub at_key : Bool → ℕ → Option Entry → Report → Result Entry Refusal
 at_key full today None r = at_new_key full today r (enters r.action)
-at_key full today (Some e) r = at_entry e r (enters r.action) (takes e.standing r.action)
+at_key full today (Some e) r = at_entry e r (taken e.standing r.action)
 
 abbrev pub same_party : Key → Bool
 same_party k = bytes_eq k.reporter k.other
@@ -97,29 +98,30 @@ may_close b c =
 pub data Call : Type 0 where
   report : Slip → Call
   close : Close → Call
-  -- a key, or the refusal of the texts that were to name one
-  lookup : Result Key Refusal → Call
+  -- a key, or how the texts that were to name one are refused
+  lookup : Result Key RefusalParts → Call
 
+-- answers as they are told: refusals by number, words and tag, states by their words, findings by their numbers
 pub data Answer : Type 0 where
-  refused : Refusal → Answer
+  refused : RefusalParts → Answer
   accepted : Answer
   -- the notices, how many pairs were taken up, and the next day
   closed : List Notice → ℕ → ℕ → Answer
   shows : Shown → Answer
 
 abbrev pub report_answer : Result Entry Refusal → Answer
-report_answer (Err refusal) = refused refusal
+report_answer (Err refusal) = refused (parts_of refusal)
 report_answer (Ok e) = accepted
 
 abbrev pub close_answer : Meaning → Book → Close → Result ℕ Refusal → Answer
-close_answer sheet b c (Err refusal) = refused refusal
+close_answer sheet b c (Err refusal) = refused (parts_of refusal)
 close_answer sheet b c (Ok day) = closed (filter_map (notice_of sheet c b.day b.entries) b.entries) (count_by (takes_up c b.day b.entries) b.entries) day
 
 abbrev pub shown_answer : Option Entry → Answer
-shown_answer None = refused UnknownTrade
+shown_answer None = refused (parts_of UnknownTrade)
 shown_answer (Some e) = shows (shown e)
 
-abbrev pub lookup_answer : Book → Result Key Refusal → Answer
+abbrev pub lookup_answer : Book → Result Key RefusalParts → Answer
 lookup_answer b (Err refusal) = refused refusal
 lookup_answer b (Ok k) = shown_answer (entry_at k b.entries)
 

@@ -1,5 +1,5 @@
 -- What a close finds of each row: from what the rows hold before it.
-use Rattle.std.specs.Prelude.{ℕ, ◌+◌, Bool, true, false, not, ◌&&◌, if◌then◌else◌, List, map, Some, None, Option, ◌==◌}
+use Rattle.std.specs.Prelude.{ℕ, ◌+◌, Bool, true, false, not, ◌&&◌, if◌then◌else◌, List, Some, None, Option, ◌==◌}
 use Rattle.std.specs.List.{find}
 use Rattle.std.specs.Option.{option_map}
 use Rattle.std.specs.Ordering.{is_lt}
@@ -7,20 +7,19 @@ use Rattle.std.specs.Str.{bytes_eq}
 use Rattle.codes.specs.Codes.{text_of}
 use Rattle.fields.specs.declared.field.report.PartyKind.{PartyKind}
 use Rattle.fields.specs.declared.field.report.PartyKind.TheVariants.{Lei, Client}
-use Rattle.sheets.specs.Findings.{finding_number}
 use Rattle.sheets.specs.Sheets.{Meaning, findings_of, state_by}
 use Rattle.sheets.specs.declared.finding.Finding.{Finding}
 use Rattle.rows.specs.Days.{due_later}
 use Rattle.rows.specs.Entries.{Entry, uncompared}
 use Rattle.rows.specs.Keys.{Key, key_order, mirror, same_key}
-use Rattle.rows.specs.Words.{state_of_pair, state_text}
+use Rattle.rows.specs.Words.{Shown, state_of_pair, told}
 use Rattle.rows.specs.declared.standing.Standing.{Standing}
 use Rattle.rows.specs.declared.standing.Standing.TheVariants.{Active, Ended, Withdrawn}
 use Rattle.rows.specs.declared.state.State.{State}
 use Rattle.rows.specs.declared.state.State.TheVariants.{Gone, Laps, Npar, Outs}
 use Rattle.rules.specs.Lists.{has}
 
--- what a close is given besides its sheet: the LEI register, the country list, and places for notices
+-- what a host hands to a close beside the sheet: who is registered, which countries count, and how many notices have room
 pub record Close : Type 0 where
   pub parties : List (List ℕ)
   pub countries : List (List ℕ)
@@ -116,31 +115,21 @@ entry_after sheet c today entries e = option_map (with_verdict e) (judged sheet 
 
 -- ---- notices
 
--- a state with its findings
-abbrev pub Shown : Type 0
-Shown = State × List Finding
-
 pub record Notice : Type 0 where
   pub key : Key
-  pub state : State
-  pub findings : List Finding
+  pub says : Shown
 
+-- what a row shows
 abbrev pub shown : Entry → Shown
-shown e = (e.state, e.findings)
-
-abbrev pub said : Notice → Shown
-said n = (n.state, n.findings)
-
-abbrev pub same_findings : List Finding → List Finding → Bool
-same_findings a b = bytes_eq (map finding_number a) (map finding_number b)
+shown e = told e.state e.findings
 
 abbrev pub same_shown : Shown → Shown → Bool
-same_shown a b = bytes_eq (state_text a.0) (state_text b.0) && same_findings a.1 b.1
+same_shown a b = bytes_eq a.0 b.0 && bytes_eq a.1 b.1
 
 -- a notice for each row that is freed, and for each whose state or findings change
 abbrev pub notice_by : Entry → Option Verdict → Option Notice
-notice_by e None = Some (record { key = e.key; state = Gone; findings = uncompared })
-notice_by e (Some v) = if same_shown (v.state, v.findings) (shown e) then None else Some (record { key = e.key; state = v.state; findings = v.findings })
+notice_by e None = Some (record { key = e.key; says = told Gone uncompared })
+notice_by e (Some v) = if same_shown (told v.state v.findings) (shown e) then None else Some (record { key = e.key; says = told v.state v.findings })
 
 abbrev pub notice_of : Meaning → Close → ℕ → List Entry → Entry → Option Notice
 notice_of sheet c today entries e = notice_by e (judged sheet c today entries e)

@@ -5,6 +5,7 @@ use Rattle.std.proofs.lemmas.List.Elements.{filter-append}
 use Rattle.std.proofs.lemmas.Slice.Eq.{bytes_eq-Decides}
 use Rattle.std.proofs.lemmas.Bool.Decides.{not_from_Decides}
 use Rattle.refusals.specs.declared.refusal.Refusal.{Refusal}
+use Rattle.refusals.specs.Words.{parts_of}
 use Rattle.refusals.specs.declared.refusal.Refusal.TheVariants.{BookFull, DatedAhead, SameParty}
 use Rattle.report.specs.declared.report.Report.{Report}
 use Rattle.sheets.specs.Sheets.{Meaning}
@@ -27,7 +28,7 @@ abbrev about : List ℕ → Told → Bool
 about trade t = concerns trade t.0
 
 abbrev NotFull : List Told → Type 0
-NotFull ts = AllByRecursion (λ (t : Told). t.1 ≢ refused BookFull) ts
+NotFull ts = AllByRecursion (λ (t : Told). t.1 ≢ refused (parts_of BookFull)) ts
 
 -- ---- a history, cut at its last close
 
@@ -93,15 +94,15 @@ same_on h g same trade = sym (on_kept trade h) ∙ ap on (same trade) ∙ on_kep
 
 -- ---- one Trade ID, in a book that is never full
 
-full_free : (full : Bool) (today : ℕ) (old : Option Entry) (r : Report) → report_answer (judged_report full today old r) ≢ refused BookFull → judged_report full today old r ≡ judged_report false today old r
+full_free : (full : Bool) (today : ℕ) (old : Option Entry) (r : Report) → report_answer (judged_report full today old r) ≢ refused (parts_of BookFull) → judged_report full today old r ≡ judged_report false today old r
 full_free full today old r = go (same_party (key_in r.parties)) (ahead today r) old
   where
-    at : (entering : Option Standing) (f : Bool) → report_answer (at_new_key f today r entering) ≢ refused BookFull → at_new_key f today r entering ≡ at_new_key false today r entering
+    at : (entering : Option Standing) (f : Bool) → report_answer (at_new_key f today r entering) ≢ refused (parts_of BookFull) → at_new_key f today r entering ≡ at_new_key false today r entering
     at None f n = refl
     at (Some standing) true n = absurd (n refl)
     at (Some standing) false n = refl
 
-    go : (u v : Bool) (old : Option Entry) → report_answer (cond u (Err SameParty) (cond v (Err DatedAhead) (at_key full today old r))) ≢ refused BookFull → cond u (Err SameParty) (cond v (Err DatedAhead) (at_key full today old r)) ≡ cond u (Err SameParty) (cond v (Err DatedAhead) (at_key false today old r))
+    go : (u v : Bool) (old : Option Entry) → report_answer (cond u (Err SameParty) (cond v (Err DatedAhead) (at_key full today old r))) ≢ refused (parts_of BookFull) → cond u (Err SameParty) (cond v (Err DatedAhead) (at_key full today old r)) ≡ cond u (Err SameParty) (cond v (Err DatedAhead) (at_key false today old r))
     go true v old n = refl
     go false true old n = refl
     go false false None n = at (enters r.action) full n
@@ -144,7 +145,7 @@ near_far : (b d : Book) (s : Slip) (trade : List ℕ) → trade_of s ≢ trade �
 near_far b d s trade n near = record { day = day_kept b (received b s) ∙ near.day; entries = λ k p. far b s trade n (received b s) refl k p ∙ near.entries k p }
 
 -- a report of this Trade ID
-near_received : (b d : Book) (s : Slip) (trade : List ℕ) → trade_of s ≡ trade → Near trade b d → report_answer (received b s) ≢ refused BookFull → received b s ≡ roomy d s
+near_received : (b d : Book) (s : Slip) (trade : List ℕ) → trade_of s ≡ trade → Near trade b d → report_answer (received b s) ≢ refused (parts_of BookFull) → received b s ≡ roomy d s
 near_received b d (Err refusal) trade e near n = refl
 near_received b d (Ok r) trade e near n = full_free (is_full b) b.day (entry_at (key_in r.parties) b.entries) r n ∙ (λ i. judged_report false (near.day i) (near.entries (key_in r.parties) e i) r)
 
@@ -161,7 +162,7 @@ record Alone (b : Book) (trade : List ℕ) (d : Book) (ts : List Told) (own : Li
   near : Near trade d (run_roomy b own)
   says : ts ≡ tell_roomy b own
 
-alone_at : (b : Book) (trade : List ℕ) (s : Slip) (d : Book) (ts : List Told) (own : List Call) → report_answer (received d s) ≢ refused BookFull → (v : Bool) → Decides v (trade_of s ≡ trade) → Alone b trade d ts own → Alone b trade (after_report d (received d s)) (cond v ((report s, report_answer (received d s)) ∷ ts) ts) (cond v (report s ∷ own) own)
+alone_at : (b : Book) (trade : List ℕ) (s : Slip) (d : Book) (ts : List Told) (own : List Call) → report_answer (received d s) ≢ refused (parts_of BookFull) → (v : Bool) → Decides v (trade_of s ≡ trade) → Alone b trade d ts own → Alone b trade (after_report d (received d s)) (cond v ((report s, report_answer (received d s)) ∷ ts) ts) (cond v (report s ∷ own) own)
 alone_at b trade s d ts own n true e was =
     let q : received d s ≡ roomy (run_roomy b own) s = near_received d (run_roomy b own) s trade (e.0 refl) was.near n in
     record {

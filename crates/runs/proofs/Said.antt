@@ -10,15 +10,15 @@ use Rattle.sheets.specs.declared.finding.PairState.TheVariants as Pair
 use Rattle.rows.specs.Entries.{Entry, uncompared}
 use Rattle.rows.specs.Keys.{Key, key_in, same_key}
 use Rattle.rows.specs.Standings.{enters}
-use Rattle.rows.specs.Words.{state_of_pair}
+use Rattle.rows.specs.Words.{Shown, state_of_pair, told}
 use Rattle.rows.specs.declared.standing.Standing.{Standing}
 use Rattle.rows.specs.declared.state.State.{State}
 use Rattle.rows.specs.declared.state.State.TheVariants.{Err1, Err2, Gone, Laps, Mach, Npar, Outs, Wait}
 use Rattle.rules.specs.Books.{Book, Call, Opening, Slip, after, after_close, after_report, close, close_answer, entry_at, lookup, may_close, put, received, report, report_answer}
-use Rattle.rules.specs.Judging.{Close, Line, Notice, Shown, Verdict, early, entry_after, gone, judged, lapsed, line, notice_by, notice_of, outside, pair_findings, partner, ready, said, same_shown, shown, verdict, with_verdict}
+use Rattle.rules.specs.Judging.{Close, Line, Notice, Verdict, early, entry_after, gone, judged, lapsed, line, notice_by, notice_of, outside, pair_findings, partner, ready, same_shown, shown, verdict, with_verdict}
 use Rattle.rules.proofs.Entries.{Sorted, find_collect, find_with_other, find_with_same, for_collect, none_some, some_inj}
 use Rattle.rules.proofs.Keys.{key_dec, same_not, same_to}
-use Rattle.rules.proofs.Shown.{not_same_shown, same_shown_is}
+use Rattle.rules.proofs.Shown.{not_same_shown, one_state, same_shown_is}
 use Rattle.runs.specs.Law.{DiffersFromNext, NoRepeat, enters_at, newest, notices_for, notices_in, since_entry, was_accepted}
 use Rattle.runs.proofs.Steps.{Altered, Entered, keeps, sorted_after, tells, took_in, took_in_key}
 
@@ -111,9 +111,9 @@ noted_none k s x ns e = ap (λ (v : Bool). cond v [] ns) e
 noted_on : (k : Key) (s : Slip) (x : Entry) (ns : List Notice) → enters_at k s ≡ false → noted (Ok x) k s ns ≡ ns
 noted_on k s x ns e = ap (λ (v : Bool). cond v [] ns) e
 
-differs : (n : Notice) (ns : List Notice) → said n ≢ newest ns → DiffersFromNext n ns
+differs : (n : Notice) (ns : List Notice) → n.says ≢ newest ns → DiffersFromNext n ns
 differs n [] h = tt
-differs n (m ∷ ms) h = λ e. h (ap said e)
+differs n (m ∷ ms) h = λ e. h (ap (λ (x : Notice). x.says) e)
 
 module _ (b : Book) (f : Key → List Notice) (before : Says b.entries f) where
   says_took : (k : Key) (r : Report) (x : Entry) → k ≡ key_in r.parties → Entered b.day r (entry_at (key_in r.parties) b.entries) x ⊎ Altered b.day r (entry_at (key_in r.parties) b.entries) x → shown x ≡ newest (noted (Ok x) k (Ok r) (f k))
@@ -139,10 +139,10 @@ module _ (b : Book) (f : Key → List Notice) (before : Says b.entries f) where
 
     says_judged : (k : Key) (x e : Entry) → entry_at k b.entries ≡ Some x → (v : Option Verdict) → option_map (with_verdict x) v ≡ Some e → shown e ≡ newest (cons_option (notice_by x v) [] ++ f k)
     says_judged k x e q None p = absurd (none_some p)
-    says_judged k x e q (Some v) p = go (same_shown (v.state, v.findings) (shown x)) refl
+    says_judged k x e q (Some v) p = go (same_shown (told v.state v.findings) (shown x)) refl
       where
-        go : (t : Bool) → same_shown (v.state, v.findings) (shown x) ≡ t → shown e ≡ newest (cons_option (cond t None (Some (record { key = x.key; state = v.state; findings = v.findings }))) [] ++ f k)
-        go true h = ap shown (sym (some_inj p)) ∙ same_shown_is (v.state, v.findings) (shown x) h ∙ before k x q
+        go : (t : Bool) → same_shown (told v.state v.findings) (shown x) ≡ t → shown e ≡ newest (cons_option (cond t None (Some (record { key = x.key; says = told v.state v.findings }))) [] ++ f k)
+        go true h = ap shown (sym (some_inj p)) ∙ same_shown_is (told v.state v.findings) (shown x) h ∙ before k x q
         go false h = ap shown (sym (some_inj p))
 
     says_close : (a : Result ℕ Refusal) → Says (after_close sheet b c a).entries (λ k. notices_for k (notices_in (close_answer sheet b c a)) ++ f k)
@@ -157,12 +157,12 @@ module _ (b : Book) (f : Key → List Notice) (before : Says b.entries f) where
 
     module _ (living : Alive b.entries) (apart : (k : Key) → NoRepeat (f k)) where
       no_repeat_judged : (k : Key) (x : Entry) → entry_at k b.entries ≡ Some x → (v : Option Verdict) → NoRepeat (cons_option (notice_by x v) [] ++ f k)
-      no_repeat_judged k x q None = (differs (record { key = x.key; state = Gone; findings = uncompared }) (f k) (λ e. subst Lives (ap (λ (z : Shown). z.0) (sym (e ∙ sym (before k x q)))) (living k x q)), apart k)
-      no_repeat_judged k x q (Some v) = go (same_shown (v.state, v.findings) (shown x)) refl
+      no_repeat_judged k x q None = (differs (record { key = x.key; says = told Gone uncompared }) (f k) (λ e. subst Lives (one_state x.state Gone (ap (λ (z : Shown). z.0) (sym (e ∙ sym (before k x q))))) (living k x q)), apart k)
+      no_repeat_judged k x q (Some v) = go (same_shown (told v.state v.findings) (shown x)) refl
         where
-          go : (t : Bool) → same_shown (v.state, v.findings) (shown x) ≡ t → NoRepeat (cons_option (cond t None (Some (record { key = x.key; state = v.state; findings = v.findings }))) [] ++ f k)
+          go : (t : Bool) → same_shown (told v.state v.findings) (shown x) ≡ t → NoRepeat (cons_option (cond t None (Some (record { key = x.key; says = told v.state v.findings }))) [] ++ f k)
           go true h = apart k
-          go false h = (differs (record { key = x.key; state = v.state; findings = v.findings }) (f k) (λ e. not_same_shown (v.state, v.findings) (shown x) h (e ∙ sym (before k x q))), apart k)
+          go false h = (differs (record { key = x.key; says = told v.state v.findings }) (f k) (λ e. not_same_shown (told v.state v.findings) (shown x) h (e ∙ sym (before k x q))), apart k)
 
       no_repeat_close : (a : Result ℕ Refusal) (k : Key) → NoRepeat (notices_for k (notices_in (close_answer sheet b c a)) ++ f k)
       no_repeat_close (Err refusal) k = apart k

@@ -8,7 +8,8 @@ use Rattle.sheets.specs.Sheets.{Meaning}
 use Rattle.rows.specs.Days.{ahead}
 use Rattle.rows.specs.Entries.{Entry, amended, entered}
 use Rattle.rows.specs.Keys.{key_in}
-use Rattle.rows.specs.Standings.{enters, takes}
+use Rattle.rows.specs.Standings.{enters, taken_by, takes}
+use Rattle.rows.specs.Words.{told}
 use Rattle.rows.specs.declared.standing.Standing.{Standing}
 use Rattle.rules.specs.Books.{Book, Call, Opening, after, after_close, after_report, at_entry, at_key, at_new_key, close, entry_at, is_full, judged_report, leaves, lookup, may_close, received, report, same_party}
 use Rattle.rules.specs.Judging.{Close, Notice, Verdict, entry_after, judged, notice_by, notice_of, same_shown, shown, with_verdict}
@@ -42,7 +43,7 @@ module _ (today : ℕ) (r : Report) where
   took_none (Some s) true o e z p q = absurd (err_ok q)
   took_none (Some s) false o e z p q = record { standing = s; absent = z; entering = p; is = sym (ok_inj q) }
 
-  took_some : (s t : Option Standing) (old : Entry) (o : Option Entry) (e : Entry) → o ≡ Some old → enters r.action ≡ s → at_entry old r s t ≡ Ok e → Altered o e
+  took_some : (s t : Option Standing) (old : Entry) (o : Option Entry) (e : Entry) → o ≡ Some old → enters r.action ≡ s → at_entry old r (taken_by s t) ≡ Ok e → Altered o e
   took_some (Some s) t old o e z p q = absurd (err_ok q)
   took_some None None old o e z p q = absurd (err_ok q)
   took_some None (Some s) old o e z p q = record { old = old; standing = s; present = z; entering = p; is = sym (ok_inj q) }
@@ -94,13 +95,13 @@ module _ (sheet : Meaning) (c : Close) (today : ℕ) (entries : List Entry) wher
   pub tells : Tells (notice_of sheet c today entries)
   tells x y = go (judged sheet c today entries x)
     where
-      at : (v : Verdict) (same : Bool) → cond same None (Some (record { key = x.key; state = v.state; findings = v.findings })) ≡ Some y → y.key ≡ x.key
+      at : (v : Verdict) (same : Bool) → cond same None (Some (record { key = x.key; says = told v.state v.findings })) ≡ Some y → y.key ≡ x.key
       at v true e = absurd (none_some e)
       at v false e = ap (λ (z : Notice). z.key) (sym (some_inj e))
 
       go : (o : Option Verdict) → notice_by x o ≡ Some y → y.key ≡ x.key
       go None e = ap (λ (z : Notice). z.key) (sym (some_inj e))
-      go (Some v) e = at v (same_shown (v.state, v.findings) (shown x)) e
+      go (Some v) e = at v (same_shown (told v.state v.findings) (shown x)) e
 
 -- ---- the entries ascend
 

@@ -3,16 +3,17 @@ use Rattle.std.specs.Prelude.{◌≡◌, ◌≢◌, ◌↔◌, ℕ, Bool, true, 
 use Rattle.std.specs.List.{AllByRecursion}
 use Rattle.std.specs.Str.{bytes_eq}
 use Rattle.codes.specs.Codes.{text_of}
+use Rattle.refusals.specs.Words.{parts_of}
 use Rattle.refusals.specs.declared.refusal.Refusal.TheVariants.{BookFull}
 use Rattle.sheets.specs.Sheets.{findings_of, state_of}
 use Rattle.rows.specs.Days.{due_later}
 use Rattle.rows.specs.Entries.{Entry, uncompared}
 use Rattle.rows.specs.Keys.{Key, key_in, mirror, same_key}
 use Rattle.rows.specs.Standings.{disturbs, enters}
-use Rattle.rows.specs.Words.{state_of_pair}
+use Rattle.rows.specs.Words.{Shown, state_of_pair, told as told_as}
 use Rattle.rows.specs.declared.state.State.TheVariants.{Wait}
 use Rattle.rules.specs.Books.{Answer, Book, InOrder, Call, Opening, Slip, accepted, after, answer_to, close, closed, entry_at, lookup, may_close, refused, report, shows, told}
-use Rattle.rules.specs.Judging.{Close, Notice, Shown, line, ready, said, shown, stays_paired}
+use Rattle.rules.specs.Judging.{Close, Notice, line, ready, shown, stays_paired}
 
 -- ---- each Trade ID by itself
 
@@ -32,7 +33,7 @@ abbrev pub SameFor : List Call → List Call → Type 0
 SameFor h g = (trade : List ℕ) → filter (concerns trade) h ≡ filter (concerns trade) g
 
 abbrev pub NeverFull : Opening → List Call → Type 0
-NeverFull o h = AllByRecursion (λ t. t.1 ≢ refused BookFull) (told o h)
+NeverFull o h = AllByRecursion (λ t. t.1 ≢ refused (parts_of BookFull)) (told o h)
 
 -- the closes and each Trade ID's reports get the same answers, and both books hold the same rows
 pub record Agree (o : Opening) (h g : List Call) : Type 0 where
@@ -48,8 +49,8 @@ last_close o (report s ∷ h) = last_close o h
 last_close o (lookup q ∷ h) = last_close o h
 last_close o (close c ∷ h) = if is_ok (may_close (after o h) c) then Some (c, h) else last_close o h
 
--- two rows, each the other's mirror, that the last accepted close judged, and of which it said nothing that keeps them
--- from being paired; e and m are those rows as it met them
+-- the rows of both sides of a trade, which the last accepted close met, and of which it said nothing that keeps a row from
+-- being paired; e and m are those rows as it met them
 pub record Pair (o : Opening) (h : List Call) (e m : Entry) : Type 0 where
   pub by : Close
   pub met : List Call
@@ -129,8 +130,8 @@ since_entry o k (close c ∷ h) = notices_for k (notices_in (answer_to o h (clos
 
 -- what the newest notice says; WAIT and nothing compared where there is none
 abbrev pub newest : List Notice → Shown
-newest [] = (Wait, uncompared)
-newest (n ∷ ns) = said n
+newest [] = told_as Wait uncompared
+newest (n ∷ ns) = n.says
 
 abbrev pub DiffersFromNext : Notice → List Notice → Type 0
 DiffersFromNext n [] = ⊤
@@ -151,16 +152,16 @@ pub record Stands (o : Opening) (h : List Call) : Type 0 where
   pub trades : (g : List Call) → SameFor h g → NeverFull o h → NeverFull o g → Agree o h g
   -- a row has one partner at most, and both carry what a full comparison comes to
   pub pairs : (e m : Entry) → Pair o h e m → Paired o h e m
-  -- a row shows what its newest notice says
+  -- a row shows what the newest notice since its entry says, or WAIT where there is none
   pub shows_newest : (k : Key) (e : Entry) → entry_in o h k ≡ Some e → shown e ≡ newest (since_entry o k h)
   -- no notice says what the one before it for the same entry said
   pub no_repeat : (k : Key) → NoRepeat (since_entry o k h)
   -- the rows ascend by their keys
   pub ascend : InOrder (after o h).entries
   -- a row not yet due waits
-  pub waits : (k : Key) (e : Entry) → entry_in o h k ≡ Some e → due_later (after o h).day e.due ≡ true → shown e ≡ (Wait, uncompared)
+  pub waits : (k : Key) (e : Entry) → entry_in o h k ≡ Some e → due_later (after o h).day e.due ≡ true → shown e ≡ told_as Wait uncompared
   -- two mirrored rows are both settled exactly if they are such an old pair: where the next close pairs them, it keeps their
-  -- findings then, and else it takes them up
+  -- findings, and any other two that it pairs it takes up
   pub old_pairs : (e m : Entry) → entry_in o h e.key ≡ Some e → entry_in o h m.key ≡ Some m → m.key ≡ mirror e.key → (stays_paired e m ≡ true) ↔ OldPair o h e m
 
 abbrev pub BookLaw : Type 0

@@ -214,7 +214,7 @@ const CASES: &[Case] = &[
         b"222222222222212",
         Err1,
     ),
-    // absent on both sides matches, on one side differs
+    // a value that neither report gives, and one that only one gives
     (&[(4, 5, 1)], &[], &[], b"222202222222222", Mach),
     (&[(4, 5, 2)], &[(14, b"PLN")], &[], b"222212222222222", Err2),
     (&[(0, 6, 1)], &[], &[], b"022222222222222", Mach),

@@ -1,3 +1,4 @@
 pub mod Exchanged
 pub mod Filling
+pub mod Named
 pub mod Told

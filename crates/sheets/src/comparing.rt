@@ -1,6 +1,7 @@
 // The full comparison of two reports, under any sheet.
 ghost use Rattle.std.specs.Prelude.{◌≡◌, length, map};
 ghost use Rattle.std.specs.List.{range_with_len};
+ghost use Rattle.sheets.specs.Findings.{finding_numbers, state_text};
 ghost use Rattle.sheets.specs.Sheets.{findings_of, some_differ, state_by, state_of};
 
 use crate::finding::{Category, Finding, PairState};
@@ -51,7 +52,7 @@ fn some_differ<S: Sheet>(sheet: &S, category: Category, findings: &[Finding]) ->
 
 // The state of a pair with these findings, for one that is not compared anew too.
 pub fn pair_state<S: Sheet>(sheet: &S, findings: &[Finding]) -> PairState
-    ensures { result ≡ state_by (S.meaning sheet.now) findings.now }
+    ensures { state_text result ≡ state_text (state_by (S.meaning sheet.now) findings.now) }
 {
     if some_differ(sheet, Category::First, findings) {
         PairState::Err1
@@ -65,8 +66,8 @@ pub fn pair_state<S: Sheet>(sheet: &S, findings: &[Finding]) -> PairState
 // Compares two reports in full. Which of them comes first makes no difference.
 #[tactic(auto, using(crate::proofs::Exchanged::findings_exchanged, crate::proofs::Exchanged::state_exchanged))]
 pub fn compare<S: Sheet>(sheet: &S, first: &Details, second: &Details) -> Comparison
-    ensures findings { result.findings ≡ findings_of (S.meaning sheet.now) first.now second.now }
-    ensures state { result.state ≡ state_of (S.meaning sheet.now) first.now second.now }
+    ensures findings { finding_numbers result.findings ≡ finding_numbers (findings_of (S.meaning sheet.now) first.now second.now) }
+    ensures state { state_text result.state ≡ state_text (state_of (S.meaning sheet.now) first.now second.now) }
     ensures findings_exchanged { findings_of (S.meaning sheet.now) second.now first.now ≡ findings_of (S.meaning sheet.now) first.now second.now }
     ensures state_exchanged { state_of (S.meaning sheet.now) second.now first.now ≡ state_of (S.meaning sheet.now) first.now second.now }
 {

@@ -1,5 +1,6 @@
 // What a sheet is.
 ghost use Rattle.std.specs.Prelude.{◌≡◌};
+ghost use Rattle.sheets.specs.Findings.{category_number, finding_number};
 ghost use Rattle.sheets.specs.Sheets.{Meaning};
 
 use crate::finding::{Category, Finding};
@@ -17,9 +18,9 @@ pub trait Sheet {
 
     // The weight of a field; behind the last it is the third category.
     fn category(&self, field: usize) -> Category
-        ensures { result ≡ (meaning self.now).category field };
+        ensures { category_number result ≡ category_number ((meaning self.now).category field) };
 
     // What it finds at a field of two reports.
     fn finding(&self, field: usize, first: &Details, second: &Details) -> Finding
-        ensures { result ≡ (meaning self.now).finding field first.now second.now };
+        ensures { finding_number result ≡ finding_number ((meaning self.now).finding field first.now second.now) };
 }

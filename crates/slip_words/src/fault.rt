@@ -4,6 +4,7 @@ ghost use Rattle.slip_words.specs.Faults.{error_text};
 ghost use Rattle.slip_words.specs.declared.fault.SlipWordError.TheVariants.{OutOfMemory};
 
 use std::alloc::{AllocError, AllocFailed};
+use std::error::Error;
 use std::fmt;
 
 // Why no slip was made: the words spell none, or memory ran out. A word is kept as it may be printed.
@@ -49,3 +50,5 @@ impl fmt::Display for SlipWordError {
         }
     }
 }
+
+impl Error for SlipWordError {}

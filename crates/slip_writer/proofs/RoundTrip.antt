@@ -1,11 +1,11 @@
 -- What is written is a slip, and reading it gives the same report.
-use Rattle.std.proofs.Common.{sym, length, ◌+◌, ◌≤◌, ◌≡◌, ◌-◌, List, ◌∷◌, ◌++◌, take, drop, None, Ok, Err, Result, IfOk, refl, ap, ◌∙◌, subst, arith, length-append, ◌*◌}
+use Rattle.std.proofs.Common.{sym, length, ◌+◌, ◌≤◌, ◌≡◌, List, None, Ok, Err, Result, IfOk, refl, ap, ◌∙◌, subst, arith, length-append, ◌*◌}
 use mathlib.Core.Path.{fun_ext}
+use Rattle.std.specs.Option.{option_map}
 use Rattle.std.specs.Result.{result_err}
-use Rattle.refusals.specs.Words.{tag_number}
+use Rattle.refusals.specs.Words.{parts_of}
 use Rattle.refusals.specs.declared.refusal.Refusal.{Refusal}
 use Rattle.refusals.specs.declared.tag.Tag.{Tag}
-use Rattle.refusals.specs.declared.tag.Tag.TheVariants.{TradeId, ReportingCounterparty, OtherKind, OtherCounterparty, OtherCountry, Action, Level, EligibleDate, Side, ProductIdKind, ProductId, UnderlyingKind, UnderlyingId, NotionalCurrency1, NotionalCurrency2, Venue, Compression, Price, PriceNotation, PriceCurrency, Notional, ExecutionTimestamp, ClearingTimestamp, ExchangeRate1, Valuation}
 use Rattle.slip.proofs.Laid.{complete}
 use Rattle.slip.specs.Fields.{all_or_none}
 use Rattle.std.proofs.lemmas.List.{length-map}
@@ -14,6 +14,7 @@ use Rattle.slip.specs.Layout.{FieldParts, laid_out, texts_of, IsSlip}
 use Rattle.slip.specs.Writing.{set_out}
 use Rattle.slip_writer.proofs.Accepted.{accepted}
 use Rattle.report.proofs.OneReport.{one_report}
+use Rattle.report.proofs.Tags.{after, before, parted}
 use Rattle.slip_writer.proofs.OwnTexts.{room, sized, told}
 use Rattle.slip_writer.proofs.SetOut.{Rising, count, found, in_order, size}
 use Rattle.report.specs.Judging.{all_tags, detail_tags, fields_told, party_tags, refusal_of, refusal_of_fields, refusal_of_texts}
@@ -26,41 +27,6 @@ use Rattle.report.specs.declared.report.Report.{Report}
 all_rise : Rising 0 all_tags
 unfolding all_tags party_tags detail_tags
 all_rise = grind arith
-
--- the tags before one, and behind it
-abbrev before : Tag → List Tag
-before tag = take (tag_number tag - 1) all_tags
-
-abbrev after : Tag → List Tag
-after tag = drop (tag_number tag) all_tags
-
-parted : (tag : Tag) → before tag ++ (tag ∷ after tag) ≡ all_tags
-unfolding all_tags party_tags detail_tags
-parted TradeId = refl
-parted ReportingCounterparty = refl
-parted OtherKind = refl
-parted OtherCounterparty = refl
-parted OtherCountry = refl
-parted Action = refl
-parted Level = refl
-parted EligibleDate = refl
-parted Side = refl
-parted ProductIdKind = refl
-parted ProductId = refl
-parted UnderlyingKind = refl
-parted UnderlyingId = refl
-parted NotionalCurrency1 = refl
-parted NotionalCurrency2 = refl
-parted Venue = refl
-parted Compression = refl
-parted Price = refl
-parted PriceNotation = refl
-parted PriceCurrency = refl
-parted Notional = refl
-parted ExecutionTimestamp = refl
-parted ClearingTimestamp = refl
-parted ExchangeRate1 = refl
-parted Valuation = refl
 
 -- the text of each field is found again
 text_found : (r : Report) (tag : Tag) → text_in (fields_written r) tag ≡ written_text r tag
@@ -82,9 +48,9 @@ texts_back : (r : Report) → text_in (fields_told (slip_of r)) ≡ written_text
 texts_back r = ap text_in (fields_back r) ∙ fun_ext (text_found r)
 
 refused_for_nothing : (r : Report) → refusal_of (slip_of r) ≡ None
-refused_for_nothing r = ap refusal_of_fields (complete (slip_of r) (fields_written r) (is_slip r)) ∙ ap refusal_of_texts (fun_ext (text_found r)) ∙ accepted r
+refused_for_nothing r = ap (λ o. option_map parts_of (refusal_of_fields o)) (complete (slip_of r) (fields_written r) (is_slip r)) ∙ ap (λ texts. option_map parts_of (refusal_of_texts texts)) (fun_ext (text_found r)) ∙ ap (option_map parts_of) (accepted r)
 
-same_answer : (r : Report) (answer : Result Report Refusal) → IfOk answer (Tells (written_text r)) → result_err answer ≡ None → answer ≡ Ok r
+same_answer : (r : Report) (answer : Result Report Refusal) → IfOk answer (Tells (written_text r)) → option_map parts_of (result_err answer) ≡ None → answer ≡ Ok r
 same_answer r (Ok q) t e = ap Ok (one_report (written_text r) q r t (told r))
 same_answer r (Err refusal) t e = absurd (cc)
 

@@ -10,8 +10,7 @@ use Rattle.fields.specs.Fields.{action_letter, compression_letter, level_letter,
 use Rattle.fields.specs.Parties.{party_parts}
 use Rattle.timestamps.specs.Timestamps.{instant}
 use Rattle.timestamps.specs.Times.{timestamp_text}
-use Rattle.refusals.specs.Words.{tag_number}
-use Rattle.refusals.specs.declared.refusal.Refusal.{Refusal}
+use Rattle.refusals.specs.Words.{RefusalParts, parts_of, tag_number}
 use Rattle.refusals.specs.declared.refusal.Refusal.TheVariants.{SlipBufferShort}
 use Rattle.refusals.specs.declared.tag.Tag.{Tag}
 use Rattle.refusals.specs.declared.tag.Tag.TheVariants.{TradeId, ReportingCounterparty, OtherKind, OtherCounterparty, OtherCountry, Action, Level, EligibleDate, Side, ProductIdKind, ProductId, UnderlyingKind, UnderlyingId, NotionalCurrency1, NotionalCurrency2, Venue, Compression, Price, PriceNotation, PriceCurrency, Notional, ExecutionTimestamp, ClearingTimestamp, ExchangeRate1, Valuation}
@@ -67,8 +66,8 @@ abbrev pub slip_of : Report → List ℕ
 slip_of r = laid_out (fields_written r)
 
 -- what the writer answers: a length, or that the buffer is too short
-abbrev pub or_short : Option ℕ → Result ℕ Refusal
-or_short None = Err SlipBufferShort
+abbrev pub or_short : Option ℕ → Result ℕ RefusalParts
+or_short None = Err (parts_of SlipBufferShort)
 or_short (Some length) = Ok length
 
 -- the text of an amount, as short as it can be

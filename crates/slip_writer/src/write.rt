@@ -1,6 +1,8 @@
 // Writing a report as a slip.
 ghost use Rattle.std.specs.Prelude.{◌≡◌, ◌≤◌, length, Ok, Result};
+ghost use Rattle.std.specs.Result.{result_map_both};
 ghost use Rattle.texts.specs.Buffers.{answered, filled};
+ghost use Rattle.refusals.specs.Words.{parts_of};
 ghost use Rattle.refusals.specs.declared.refusal.Refusal.{Refusal};
 ghost use Rattle.report.specs.Judging.{Texts, all_tags};
 ghost use Rattle.report.specs.Laws.{ReadAs};
@@ -76,7 +78,7 @@ fn draft(report: &Report) -> Draft
 // short as they can be. A buffer that is too short stays as it is.
 #[tactic(auto, using(crate::proofs::RoundTrip::is_slip, crate::proofs::SameTexts::same_texts))]
 pub fn write_report(report: &Report, out: &mut [u8]) -> Result<usize, Refusal>
-    ensures answer { result ≡ or_short (answered (slip_of report.now) out.old) }
+    ensures answer { result_map_both (λ n. n) parts_of result ≡ or_short (answered (slip_of report.now) out.old) }
     ensures buffer { out.new ≡ filled (slip_of report.now) out.old }
     ensures room { length (slip_of report.now) ≤ LONGEST }
     ensures texts { (texts : Texts) → Tells texts report.now → slip_of report.now ≡ slip_with (shortened texts) }

@@ -1,5 +1,5 @@
 -- What each line of a journal is answered.
-use Rattle.std.specs.Prelude.{◌≡◌, MatchOption, ⊤, ℕ, min, Bool, cond, ◌||◌, if◌then◌else◌, List, [], ◌∷◌, ◌++◌, length, Some, None, string_bytes, codes, Option, Result, Ok, Err, String, ◌==◌, slice_index}
+use Rattle.std.specs.Prelude.{◌≡◌, MatchOption, ℕ, min, Bool, cond, ◌||◌, if◌then◌else◌, List, [], ◌∷◌, ◌++◌, length, Some, None, string_bytes, codes, Option, Result, Ok, Err, String, ◌==◌, slice_index}
 use Rattle.std.specs.declared.alloc.Global.{Global}
 use Rattle.almanac.specs.Days.{facts_text}
 use Rattle.calendar.specs.Text.{date_of}
@@ -7,6 +7,7 @@ use Rattle.hex.specs.Hex.{decode_of}
 use Rattle.hex.specs.declared.error.FromHexError.{FromHexError}
 use Rattle.journal.specs.Lines.{first_word}
 use Rattle.journal.specs.Words.{decoded_all, words_of}
+use Rattle.built_sheets.specs.Chosen.{chosen}
 use Rattle.built_sheets.specs.Rules.{is_tabled}
 use Rattle.listings.specs.Compared.{TellsCompared}
 use Rattle.refusals.specs.Words.{parts_of, refusal_text}
@@ -25,7 +26,7 @@ use Rattle.desk.specs.Openings.{opening_read, opening_text}
 use Rattle.desk.specs.Told.{TellsClose, TellsLookup, TellsReport, used_text}
 use Rattle.rules.specs.Judging.{Close}
 use Rattle.verbs.specs.Settings.{Setting}
-use Rattle.verbs.specs.Shelves.{IfOpen}
+use Rattle.verbs.specs.Shelves.{IfOpen, SameSheet}
 use Rattle.verbs.specs.declared.shelf.Shelf.{Shelf}
 use Rattle.verbs.specs.declared.shelf.Shelf.TheVariants.{Empty, Holds}
 use Rattle.verbs.specs.Words.{places_given}
@@ -50,8 +51,8 @@ abbrev pub Says : Said → List ℕ → Type 0
 Says nothing answer = ⊥
 Says (text t) answer = answer ≡ t
 Says (compared sheet first second) answer = (told : List ℕ) × ((answer ≡ codes "compare " ++ told) × TellsCompared sheet first second told)
-Says (reported bytes old new) answer = IfOpen new (λ b. (told : List ℕ) × ((answer ≡ codes "report " ++ told) × TellsReport bytes old b told))
-Says (shut sheet c old new) answer = IfOpen new (λ b. (told : List ℕ) × ((answer ≡ codes "close " ++ told) × TellsClose sheet c old b told))
+Says (reported bytes old new) answer = IfOpen new (λ b. (told : List ℕ) × ((answer ≡ codes "report " ++ told) × TellsReport bytes old b.book told))
+Says (shut sheet c old new) answer = IfOpen new (λ b. (told : List ℕ) × ((answer ≡ codes "close " ++ told) × TellsClose sheet c old b.book told))
 Says (looked b trade reporter other) answer = (told : List ℕ) × ((answer ≡ codes "lookup " ++ told) × TellsLookup b trade reporter other told)
 Says no_call answer = ⊥
 
@@ -65,13 +66,13 @@ SaysOrPasses (shut sheet c old new) answer = MatchOption answer ⊥ (λ s. Says 
 SaysOrPasses (looked b trade reporter other) answer = MatchOption answer ⊥ (λ s. Says (looked b trade reporter other) (string_bytes s))
 SaysOrPasses no_call answer = ⊥
 
--- only reports and closes leave another book
+-- only reports and closes leave another book, and none another sheet of it
 abbrev pub Keeps : Said → Shelf → Shelf → Type 0
 Keeps nothing old new = new ≡ old
 Keeps (text t) old new = new ≡ old
 Keeps (compared sheet first second) old new = new ≡ old
-Keeps (reported bytes b c) old new = ⊤
-Keeps (shut sheet lists b c) old new = ⊤
+Keeps (reported bytes b c) old new = SameSheet old new
+Keeps (shut sheet lists b c) old new = SameSheet old new
 Keeps (looked b trade reporter other) old new = new ≡ old
 Keeps no_call old new = new ≡ old
 
@@ -133,14 +134,14 @@ compare_answer sheet (a ∷ b ∷ []) = slips_said sheet (decode_of a) (decode_o
 compare_answer sheet words = no_call
 
 -- the answer to words that open a book, empty or add to a list: how many rows the book has is named, or 4,096
-abbrev pub sized_said : List ℕ → Option ℕ → Said
-sized_said day None = no_call
-sized_said day (Some rows) = text (codes "open " ++ opening_text (opening_read day rows))
+abbrev pub sized_said : Option (List ℕ) → List ℕ → Option ℕ → Said
+sized_said client day None = no_call
+sized_said client day (Some rows) = text (codes "open " ++ opening_text (opening_read client day rows))
 
-abbrev pub open_answer : List (List ℕ) → Said
-open_answer (day ∷ []) = text (codes "open " ++ opening_text (opening_read day 4096))
-open_answer (day ∷ rows ∷ []) = sized_said day (number_spelled rows)
-open_answer words = no_call
+abbrev pub open_answer : Option (List ℕ) → List (List ℕ) → Said
+open_answer client (day ∷ []) = text (codes "open " ++ opening_text (opening_read client day 4096))
+open_answer client (day ∷ rows ∷ []) = sized_said client day (number_spelled rows)
+open_answer client words = no_call
 
 abbrev pub register_answer : List (List ℕ) → List (List ℕ) → Said
 register_answer now words = text (codes "register " ++ list_text now words (parties_read words))
@@ -155,28 +156,29 @@ report_said old new (Some bytes) = reported bytes old new
 
 abbrev pub report_answer : Shelf → Shelf → List (List ℕ) → Said
 report_answer Empty new words = no_call
-report_answer (Holds old) new words = report_said old new (slip_spelled words)
+report_answer (Holds old) new words = report_said old.book new (slip_spelled words)
 
--- a book has 4,096 rows at most, so that more places are as good as these
+-- the open book is closed under the sheet that it was opened with; it has 4,096 rows at most, so that more places are as
+-- good as these
 abbrev pub close_said : Meaning → Setting → Book → Shelf → Option ℕ → Said
 close_said sheet now old new None = no_call
 close_said sheet now old new (Some places) = shut sheet (record { parties = now.parties; countries = now.countries; places = min places 4096 }) old new
 
-abbrev pub close_answer : Meaning → Setting → Shelf → Shelf → List (List ℕ) → Said
-close_answer sheet now Empty new words = no_call
-close_answer sheet now (Holds old) new words = close_said sheet now old new (places_given words)
+abbrev pub close_answer : Setting → Shelf → Shelf → List (List ℕ) → Said
+close_answer now Empty new words = no_call
+close_answer now (Holds old) new words = close_said (chosen old.sheet) now old.book new (places_given words)
 
 abbrev pub lookup_answer : Shelf → List (List ℕ) → Said
 lookup_answer Empty words = no_call
-lookup_answer (Holds b) (trade ∷ reporter ∷ other ∷ []) = looked b trade reporter other
+lookup_answer (Holds b) (trade ∷ reporter ∷ other ∷ []) = looked b.book trade reporter other
 lookup_answer (Holds b) words = no_call
 
 abbrev pub rows_answer : Shelf → List (List ℕ) → Said
 rows_answer Empty words = no_call
-rows_answer (Holds b) [] = text (codes "rows " ++ used_text b)
+rows_answer (Holds b) [] = text (codes "rows " ++ used_text b.book)
 rows_answer (Holds b) words = no_call
 
--- the answer to a verb, under the sheet that is chosen, and by the book before and after the line
+-- the answer to a verb, under the sheet in force, and by the book before and after the line
 unfoldable pub verb_answer : Meaning → Setting → Shelf → Shelf → Verb → List (List ℕ) → Said
 verb_answer sheet now old new (Compare check) words = pair_answer check words
 verb_answer sheet now old new Day words = day_answer words
@@ -184,11 +186,11 @@ verb_answer sheet now old new Slip words = slip_answer words
 verb_answer sheet now old new Write words = write_answer words
 verb_answer sheet now old new Sheet words = sheet_answer words
 verb_answer sheet now old new CompareSlips words = compare_answer sheet words
-verb_answer sheet now old new Open words = open_answer words
+verb_answer sheet now old new Open words = open_answer now.client words
 verb_answer sheet now old new Register words = register_answer now.parties words
 verb_answer sheet now old new Countries words = countries_answer now.countries words
 verb_answer sheet now old new Report words = report_answer old new words
-verb_answer sheet now old new Closing words = close_answer sheet now old new words
+verb_answer sheet now old new Closing words = close_answer now old new words
 verb_answer sheet now old new Lookup words = lookup_answer old words
 verb_answer sheet now old new Rows words = rows_answer old words
 

@@ -28,26 +28,26 @@ abbrev pub sheet_after : Option (List ℕ) → List (List ℕ) → Option (List 
 sheet_after now (word ∷ []) = after_word now word
 sheet_after now words = now
 
--- the book to be opened after the words of an opening: a refused one asks for none
+-- the book to be opened after the words of an opening, bound to the sheet in force: a refused one asks for none
 abbrev pub asked_for : Option Opened → Result Opened RefusalParts → Option Opened
 asked_for now (Ok o) = Some o
 asked_for now (Err refusal) = now
 
-abbrev pub sized : Option Opened → List ℕ → Option ℕ → Option Opened
-sized now day None = now
-sized now day (Some rows) = asked_for now (opening_read day rows)
+abbrev pub sized : Option (List ℕ) → Option Opened → List ℕ → Option ℕ → Option Opened
+sized client now day None = now
+sized client now day (Some rows) = asked_for now (opening_read client day rows)
 
-abbrev pub opening_after : Option Opened → List (List ℕ) → Option Opened
-opening_after now (day ∷ []) = asked_for now (opening_read day 4096)
-opening_after now (day ∷ rows ∷ []) = sized now day (number_spelled rows)
-opening_after now words = now
+abbrev pub opening_after : Option (List ℕ) → Option Opened → List (List ℕ) → Option Opened
+opening_after client now (day ∷ []) = asked_for now (opening_read client day 4096)
+opening_after client now (day ∷ rows ∷ []) = sized client now day (number_spelled rows)
+opening_after client now words = now
 
 -- four verbs change what they speak of, and nothing else
 unfoldable pub after_verb : Setting → Verb → List (List ℕ) → Setting
 after_verb now Sheet words = record now { client = sheet_after now.client words }
 after_verb now Register words = record now { parties = list_after now.parties words (parties_read words) }
 after_verb now Countries words = record now { countries = list_after now.countries words (countries_read words) }
-after_verb now Open words = record now { opening = opening_after now.opening words }
+after_verb now Open words = record now { opening = opening_after now.client now.opening words }
 after_verb now verb words = now
 
 abbrev pub after_named : Setting → Option Verb → List (List ℕ) → Setting

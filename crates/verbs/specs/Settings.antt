@@ -1,19 +1,12 @@
 -- What is kept from line to line besides the book, as texts.
-use Rattle.std.specs.Prelude.{ℕ, List, map, Some, None, Option}
+use Rattle.std.specs.Prelude.{ℕ, List, map, Option}
 use Rattle.std.specs.Option.{option_map}
-use Rattle.built_sheets.specs.Tabled.{bytes_of}
-use Rattle.built_sheets.specs.declared.chosen.ChosenSheet.{ChosenSheet}
-use Rattle.built_sheets.specs.declared.chosen.ChosenSheet.TheVariants.{Kdpw, Tabled}
 use Rattle.codes.specs.Codes.{text_of}
-use Rattle.desk.specs.Openings.{Opened, opened_by}
+use Rattle.desk.specs.Openings.{Opened, client_bytes, opened_by}
 use Rattle.verbs.specs.declared.settings.Settings.{Settings}
 
--- a client's sheet by its bytes; none where it is the published one
-abbrev pub client_bytes : ChosenSheet → Option (List ℕ)
-client_bytes (Kdpw sheet) = None
-client_bytes (Tabled sheet) = Some (bytes_of sheet)
-
 pub record Setting : Type 0 where
+  -- the sheet for slips that are compared and for the next book: a client's by its bytes, none where it is the published one
   pub client : Option (List ℕ)
   pub parties : List (List ℕ)
   pub countries : List (List ℕ)

@@ -3,7 +3,9 @@ ghost use Rattle.std.specs.Prelude.{◌≡◌, map, IfOk, IfErr, OnErr, OnOk, So
 ghost use Rattle.verbs.specs.Answers.{Keeps, Says, SaysOrPasses, answer_of, call_answer, client_sheet_said, compare_answer, day_answer, no_call, pair_answer, sheet_answer, slip_answer, text, verb_answer, write_answer};
 ghost use Rattle.verbs.specs.Faults.{IfNoCall};
 ghost use Rattle.verbs.specs.Chosen.{after_call, after_client, after_line, after_verb, sheet_after};
-ghost use Rattle.verbs.specs.Settings.{client_bytes, setting_of};
+ghost use Rattle.desk.specs.Openings.{client_bytes};
+ghost use Rattle.verbs.specs.Settings.{setting_of};
+ghost use Rattle.verbs.specs.Shelves.{Lawful};
 ghost use Rattle.built_sheets.specs.Chosen.{chosen};
 ghost use Rattle.hex.specs.Hex.{decode_of};
 
@@ -144,6 +146,7 @@ fn verb_answer(
     ensures answered { IfOk result (λ s. Says (verb_answer (chosen settings.old.sheet) (setting_of settings.old) shelf.old shelf.new verb (map vec_items words.now)) (string_bytes s)) }
     ensures fault { IfErr result (λ f. IfNoCall f (no_call ≡ verb_answer (chosen settings.old.sheet) (setting_of settings.old) shelf.old shelf.new verb (map vec_items words.now))) }
     ensures book { OnOk result (Keeps (verb_answer (chosen settings.old.sheet) (setting_of settings.old) shelf.old shelf.new verb (map vec_items words.now)) shelf.old shelf.new) }
+    ensures law { OnOk result (Lawful shelf.old → Lawful shelf.new) }
     ensures chosen { OnOk result (setting_of settings.new ≡ after_verb (setting_of settings.old) verb (map vec_items words.now)) }
     ensures no_choice { IfErr result (λ f. IfNoCall f (setting_of settings.old ≡ after_verb (setting_of settings.old) verb (map vec_items words.now))) }
     ensures kept { OnErr result (settings.new.sheet ≡ settings.old.sheet) }
@@ -156,7 +159,7 @@ fn verb_answer(
         Verb::Write => write_answer(alloc, words),
         Verb::Sheet => sheet_answer(alloc, &mut settings.sheet, words),
         Verb::CompareSlips => compare_answer(alloc, &settings.sheet, words),
-        Verb::Open => open_answer(alloc, &mut settings.opening, words),
+        Verb::Open => open_answer(alloc, &mut settings.opening, &settings.sheet, words),
         Verb::Register => register_answer(alloc, &mut settings.parties, words),
         Verb::Countries => countries_answer(alloc, &mut settings.countries, words),
         Verb::Report => report_answer(alloc, shelf, words),
@@ -177,6 +180,7 @@ fn call_answer(
     ensures answered { IfOk result (λ s. Says (call_answer (chosen settings.old.sheet) (setting_of settings.old) shelf.old shelf.new (Some (map vec_items words.now))) (string_bytes s)) }
     ensures fault { IfErr result (λ f. IfNoCall f (no_call ≡ call_answer (chosen settings.old.sheet) (setting_of settings.old) shelf.old shelf.new (Some (map vec_items words.now)))) }
     ensures book { OnOk result (Keeps (call_answer (chosen settings.old.sheet) (setting_of settings.old) shelf.old shelf.new (Some (map vec_items words.now))) shelf.old shelf.new) }
+    ensures law { OnOk result (Lawful shelf.old → Lawful shelf.new) }
     ensures chosen { OnOk result (setting_of settings.new ≡ after_call (setting_of settings.old) (Some (map vec_items words.now))) }
     ensures no_choice { IfErr result (λ f. IfNoCall f (setting_of settings.old ≡ after_call (setting_of settings.old) (Some (map vec_items words.now)))) }
     ensures kept { OnErr result (settings.new.sheet ≡ settings.old.sheet) }
@@ -203,6 +207,7 @@ pub fn answer_line(
     ensures answered { IfOk result (λ o. SaysOrPasses (answer_of (chosen settings.old.sheet) (setting_of settings.old) shelf.old shelf.new line.now) o) }
     ensures fault { IfErr result (λ f. IfNoCall f (no_call ≡ answer_of (chosen settings.old.sheet) (setting_of settings.old) shelf.old shelf.new line.now)) }
     ensures book { OnOk result (Keeps (answer_of (chosen settings.old.sheet) (setting_of settings.old) shelf.old shelf.new line.now) shelf.old shelf.new) }
+    ensures law { OnOk result (Lawful shelf.old → Lawful shelf.new) }
     ensures chosen { OnOk result (setting_of settings.new ≡ after_line (setting_of settings.old) line.now) }
     ensures no_choice { IfErr result (λ f. IfNoCall f (setting_of settings.old ≡ after_line (setting_of settings.old) line.now)) }
     ensures kept { OnErr result (settings.new.sheet ≡ settings.old.sheet) }

@@ -1,9 +1,9 @@
 // Answers the calls on a book.
-ghost use Rattle.std.specs.Prelude.{◌≡◌, map, IfOk, IfErr, Some, None, string_bytes, vec_items};
-ghost use Rattle.built_sheets.specs.Chosen.{chosen};
+ghost use Rattle.std.specs.Prelude.{◌≡◌, map, IfOk, IfErr, OnOk, Some, None, string_bytes, vec_items};
 ghost use Rattle.verbs.specs.Answers.{Says, close_answer, lookup_answer, no_call, report_answer, rows_answer};
 ghost use Rattle.verbs.specs.Faults.{IfNoCall};
 ghost use Rattle.verbs.specs.Settings.{setting_of};
+ghost use Rattle.verbs.specs.Shelves.{Lawful, SameSheet};
 ghost use Rattle.verbs.specs.Words.{places_given};
 
 use crate::fault::Fault;
@@ -12,6 +12,7 @@ use crate::settings::Settings;
 use crate::shelf::Shelf;
 use crate::verb::Verb;
 use desk::calls::{close_day, list_used, look_up, report_slip};
+use desk::opening::OpenBook;
 use rules::room::MOST_ROWS;
 use slip_words::spelling::spell_slip;
 use std::alloc::Global;
@@ -24,9 +25,11 @@ pub fn report_answer(
 ) -> Result<String, Fault>
     ensures answered { IfOk result (λ s. Says (report_answer shelf.old shelf.new (map vec_items words.now)) (string_bytes s)) }
     ensures fault { IfErr result (λ f. IfNoCall f (no_call ≡ report_answer shelf.old shelf.new (map vec_items words.now))) }
+    ensures bound { OnOk result (SameSheet shelf.old shelf.new) }
+    ensures law { OnOk result (Lawful shelf.old → Lawful shelf.new) }
     ensures kept { IfErr result (λ f. IfNoCall f (shelf.new ≡ shelf.old)) }
 {
-    let Shelf::Holds(book) = shelf else {
+    let Shelf::Holds(OpenBook { book, .. }) = shelf else {
         return Err(Fault::NoBook);
     };
     let bytes = spell_slip(alloc, words)?;
@@ -46,24 +49,33 @@ fn read_places(alloc: Global, words: &[Vec<u8>]) -> Result<usize, Fault>
     }
 }
 
-// The answer to the words of a close.
+// The answer to the words of a close, which is under the sheet that the book was opened with.
 pub fn close_answer(
     alloc: Global,
     settings: &Settings,
     shelf: &mut Shelf<'_>,
     words: &[Vec<u8>],
 ) -> Result<String, Fault>
-    ensures answered { IfOk result (λ s. Says (close_answer (chosen settings.now.sheet) (setting_of settings.now) shelf.old shelf.new (map vec_items words.now)) (string_bytes s)) }
-    ensures fault { IfErr result (λ f. IfNoCall f (no_call ≡ close_answer (chosen settings.now.sheet) (setting_of settings.now) shelf.old shelf.new (map vec_items words.now))) }
+    ensures answered { IfOk result (λ s. Says (close_answer (setting_of settings.now) shelf.old shelf.new (map vec_items words.now)) (string_bytes s)) }
+    ensures fault { IfErr result (λ f. IfNoCall f (no_call ≡ close_answer (setting_of settings.now) shelf.old shelf.new (map vec_items words.now))) }
+    ensures bound { OnOk result (SameSheet shelf.old shelf.new) }
+    ensures law { OnOk result (Lawful shelf.old → Lawful shelf.new) }
     ensures kept { IfErr result (λ f. IfNoCall f (shelf.new ≡ shelf.old)) }
 {
-    let Shelf::Holds(book) = shelf else {
+    let Shelf::Holds(held) = shelf else {
         return Err(Fault::NoBook);
     };
     let places = read_places(alloc, words)?;
     let parties = settings.parties.as_slice();
     let countries = settings.countries.as_slice();
-    let told = close_day(alloc, book, &settings.sheet, parties, countries, places)?;
+    let told = close_day(
+        alloc,
+        &mut held.book,
+        &held.sheet,
+        parties,
+        countries,
+        places,
+    )?;
     Ok(format!(in alloc; "close {told}")?)
 }
 
@@ -72,7 +84,7 @@ pub fn lookup_answer(alloc: Global, shelf: &Shelf<'_>, words: &[Vec<u8>]) -> Res
     ensures answered { IfOk result (λ s. Says (lookup_answer shelf.now (map vec_items words.now)) (string_bytes s)) }
     ensures fault { IfErr result (λ f. IfNoCall f (no_call ≡ lookup_answer shelf.now (map vec_items words.now))) }
 {
-    let Shelf::Holds(book) = shelf else {
+    let Shelf::Holds(held) = shelf else {
         return Err(Fault::NoBook);
     };
     let [trade, reporter, other] = words else {
@@ -80,7 +92,7 @@ pub fn lookup_answer(alloc: Global, shelf: &Shelf<'_>, words: &[Vec<u8>]) -> Res
     };
     let told = look_up(
         alloc,
-        book,
+        &held.book,
         trade.as_slice(),
         reporter.as_slice(),
         other.as_slice(),
@@ -93,12 +105,12 @@ pub fn rows_answer(alloc: Global, shelf: &Shelf<'_>, words: &[Vec<u8>]) -> Resul
     ensures answered { IfOk result (λ s. Says (rows_answer shelf.now (map vec_items words.now)) (string_bytes s)) }
     ensures fault { IfErr result (λ f. IfNoCall f (no_call ≡ rows_answer shelf.now (map vec_items words.now))) }
 {
-    let Shelf::Holds(book) = shelf else {
+    let Shelf::Holds(held) = shelf else {
         return Err(Fault::NoBook);
     };
     let [] = words else {
         return Err(Fault::WordCount(Verb::Rows, words.len()));
     };
-    let told = list_used(alloc, book)?;
+    let told = list_used(alloc, &held.book)?;
     Ok(format!(in alloc; "rows {told}")?)
 }

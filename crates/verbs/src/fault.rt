@@ -7,6 +7,7 @@ use crate::verb::Verb;
 use journal::escapes::WordError;
 use slip_words::fault::SlipWordError;
 use std::alloc::AllocError;
+use std::error::Error;
 use std::fmt;
 
 // Why a line was not answered: it is no call, or memory ran out. Words of the line are kept as they may be printed.
@@ -77,3 +78,5 @@ impl fmt::Display for Fault {
         }
     }
 }
+
+impl Error for Fault {}

@@ -5,7 +5,7 @@ use desk::opening::Opening;
 
 #[derive(Drop)]
 pub struct Settings {
-    // for the calls that follow
+    // for slips that are compared, and for the next book: an open one keeps its own
     pub sheet: ChosenSheet,
     // the register of LEIs
     pub parties: Vec<Lei>,

@@ -1,7 +1,11 @@
 // What a line of a journal can ask for.
+ghost use Rattle.std.specs.Prelude.{Some, codes};
+
 pub mod word;
 
 use amount_words::comparison::AmountCheck;
+use std::error::Error;
+use std::fmt;
 
 #[derive(Clone, Copy, Debug)]
 pub enum Verb {
@@ -36,3 +40,13 @@ pub enum Verb {
 // A word that names no verb.
 #[derive(Clone, Copy, Debug)]
 pub struct UnknownVerb;
+
+impl fmt::Display for UnknownVerb {
+    ghost output = { λ _. Some (codes "unknown verb") };
+
+    fn fmt<W: fmt::Write>(&self, f: &mut fmt::Formatter<W>) -> fmt::Result {
+        write!(f, "unknown verb")
+    }
+}
+
+impl Error for UnknownVerb {}

@@ -1,9 +1,9 @@
 // Reads a client's sheet.
-ghost use Rattle.std.specs.Prelude.{◌≡◌, length, true, IfErr, Some, None, if◌then◌else◌};
+ghost use Rattle.std.specs.Prelude.{◌≡◌, length, true, Some, None, if◌then◌else◌};
 ghost use Rattle.std.specs.Option.{option_map};
-ghost use Rattle.std.specs.Result.{result_ok};
-ghost use Rattle.refusals.specs.declared.refusal.Refusal.TheVariants.{BadSheet};
-ghost use Rattle.built_sheets.specs.Rules.{is_tabled, row_fits, rows_fit};
+ghost use Rattle.std.specs.Result.{result_map_both};
+ghost use Rattle.refusals.specs.Words.{parts_of};
+ghost use Rattle.built_sheets.specs.Rules.{row_fits, rows_fit, sheet_of};
 ghost use Rattle.built_sheets.specs.Rows.{categories_of, codes_of};
 ghost use Rattle.built_sheets.specs.Tabled.{bytes_of, numbers_of};
 
@@ -64,8 +64,7 @@ impl TabledSheet {
     // The sheet that a client's 31 bytes are. `read` and no `TryFrom`, as at every value.
     #[tactic(auto, using(crate::proofs::Reading::bytes_back, std::proofs::lemmas::Bool::Decides::nat_tests))]
     pub fn read(bytes: &[u8]) -> Result<TabledSheet, Refusal>
-        ensures value { option_map bytes_of (result_ok result) ≡ (if is_tabled bytes.now then Some bytes.now else None) }
-        ensures refusal { IfErr result (λ e. e ≡ BadSheet) }
+        ensures { result_map_both bytes_of parts_of result ≡ sheet_of bytes.now }
     {
         let [15, rest @ ..] = bytes else {
             return Err(Refusal::BadSheet);

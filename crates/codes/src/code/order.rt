@@ -1,5 +1,6 @@
-// Codes compared by their texts, byte by byte, a beginning before its continuation. The places are compared as they
-// stand: the zeros behind a text sort below every byte of a text. Derives would speak of the places and not of the texts.
+// Codes compared by their texts: the first byte that differs decides, and a text that another goes on from comes before
+// it. The places are compared as they stand: the zeros behind a text sort below every byte of a text. Derives would speak
+// of the places and not of the texts.
 ghost use Rattle.codes.specs.Codes.{text_of, text_order};
 ghost use Rattle.std.specs.Cmp.{partial_order_from_own_ties};
 ghost use Rattle.std.specs.Cmp.Rules.{comparing};

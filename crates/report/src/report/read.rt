@@ -4,6 +4,7 @@ ghost use Rattle.std.specs.Option.{option_map};
 ghost use Rattle.std.specs.Result.{result_err};
 ghost use Rattle.fields.specs.Fields.{action_letter, level_letter, level_letters};
 ghost use Rattle.fields.specs.Letters.{letter_in};
+ghost use Rattle.refusals.specs.Words.{parts_of};
 ghost use Rattle.refusals.specs.declared.refusal.Refusal.TheVariants.{BadField};
 ghost use Rattle.refusals.specs.declared.tag.Tag.TheVariants.{Action as ActionTag, Level as LevelTag};
 ghost use Rattle.slip.specs.Fields.{fields_of};
@@ -72,7 +73,7 @@ impl Report {
     // the fields that every report needs, the action, the fields that it needs, and every text that is there.
     pub fn read(bytes: &[u8]) -> Result<Report, Refusal>
         ensures value { IfOk result (λ r. Tells (text_in (fields_told bytes.now)) r) }
-        ensures refusal { result_err result ≡ refusal_of bytes.now }
+        ensures refusal { option_map parts_of (result_err result) ≡ refusal_of bytes.now }
     {
         let Ok(slip) = Slip::read(bytes) else {
             return Err(Refusal::TornSlip);

@@ -40,7 +40,7 @@ fn no_details() -> Details
 }
 
 // The key that blank rows have, since every row has one.
-fn no_key() -> TradeKey
+pub fn no_key() -> TradeKey
     ensures { key_of result ≡ blank_key }
 {
     TradeKey {

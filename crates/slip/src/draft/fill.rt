@@ -1,5 +1,5 @@
 // Putting a slip together, a field at a time.
-ghost use Rattle.std.specs.Prelude.{◌≡◌, ◌≤◌, true, cond, [], is_ok};
+ghost use Rattle.std.specs.Prelude.{◌≡◌, ◌≤◌, true, cond, [], Some, codes, is_ok};
 ghost use Rattle.refusals.specs.Words.{tag_number};
 ghost use Rattle.slip.specs.Drafts.{fields_drafted, last_tag, may_be_put, with_field};
 ghost use Rattle.slip.specs.Fields.{fields_of};
@@ -8,10 +8,22 @@ use super::Draft;
 use crate::slip::Slip;
 use arrayvec::ArrayVec;
 use refusals::tag::Tag;
+use std::error::Error;
+use std::fmt;
 
 // A field that may not stand behind the others.
 #[derive(Clone, Copy, Debug, PartialEq, Eq)]
 pub struct CannotFollow;
+
+impl fmt::Display for CannotFollow {
+    ghost output = { λ _. Some (codes "field may not stand behind the others") };
+
+    fn fmt<W: fmt::Write>(&self, f: &mut fmt::Formatter<W>) -> fmt::Result {
+        f.write_str("field may not stand behind the others")
+    }
+}
+
+impl Error for CannotFollow {}
 
 impl Draft {
     // A slip with no fields.

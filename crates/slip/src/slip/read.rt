@@ -1,5 +1,5 @@
 // Reading a slip.
-ghost use Rattle.std.specs.Prelude.{◌≡◌, ◌≤◌, List, Some, length};
+ghost use Rattle.std.specs.Prelude.{◌≡◌, ◌≤◌, List, Some, codes, length};
 ghost use Rattle.std.specs.Option.{option_map};
 ghost use Rattle.std.specs.Result.{result_ok};
 ghost use Rattle.slip.specs.Fields.{fields_of};
@@ -7,14 +7,26 @@ ghost use Rattle.slip.specs.Layout.{FieldParts, IsSlip, fields_behind, fields_fr
 
 use super::Slip;
 use crate::check::fit;
+use std::error::Error;
+use std::fmt;
 
 pub(crate) const MOST_FIELDS: usize = 25;
 
 pub(crate) const MOST_TEXT: usize = 512;
 
 // Bytes that are not laid out as a slip.
-#[derive(Clone, Copy, Debug)]
+#[derive(Clone, Copy, Debug, PartialEq, Eq)]
 pub struct NotASlip;
+
+impl fmt::Display for NotASlip {
+    ghost output = { λ _. Some (codes "not laid out as a slip") };
+
+    fn fmt<W: fmt::Write>(&self, f: &mut fmt::Formatter<W>) -> fmt::Result {
+        f.write_str("not laid out as a slip")
+    }
+}
+
+impl Error for NotASlip {}
 
 impl<'s> Slip<'s> {
     // The slip of these parts, if they fit one another.

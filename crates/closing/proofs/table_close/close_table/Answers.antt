@@ -5,6 +5,7 @@ use Rattle.business.specs.BusinessDays.{day_no}
 use Rattle.business.specs.TargetDays.{next_business}
 use Rattle.codes.specs.Codes.{text_of}
 use Rattle.refusals.specs.declared.refusal.Refusal.TheVariants.{CalendarEnds, NoticeListShort, RegisterDisordered}
+use Rattle.report.proofs.Told.{same_refusal}
 use Rattle.rules.specs.Judging.{Close}
 use Rattle.rules.specs.Slices.{book_of, room}
 use Rattle.closing.specs.Lists.{lists_of}
@@ -18,7 +19,7 @@ returns-in_err-registers g c =
     let lists = lists_of c.args.parties.now c.args.countries.now (length c.args.notices.now) in
     let book = book_of c.args.today c.args.used c.args.rows.now in
     let why = c.in_err-registers.ensures.judged in
-    let r : c.from_residual.result ≡ Err RegisterDisordered = (grind (arith, common_steps)) ∙ ap Err why.0 in
+    let r : c.from_residual.result ≡ Err RegisterDisordered = (grind (arith, common_steps)) ∙ ap Err (same_refusal _ RegisterDisordered why.0) in
     let off = not_both text_of text_of c.args.parties.now c.args.countries.now why.1 in
     refused_as (g.S.Sheet.meaning c.args.sheet.now) lists c.args.today c.args.used c.args.rows.now c.args.notices.now c.from_residual.result RegisterDisordered r (may_not_by_lists book lists off)
 

@@ -1,5 +1,6 @@
 use Rattle.std.proofs.Common.{◌≡◌, false, rules}
-use Rattle.recon.proofs.Printing.{at_no_call, is_memory, kept}
+use Rattle.recon.proofs.Printing.{at_no_call, is_memory}
+use Rattle.verbs.proofs.Saying.{kept}
 use Rattle.recon.proofs.run.Run.step.Goals.{in-UnknownVerb-2, in-BadEscape-2, in-BadHex-2, in-BadNumber-2, in-NoSlip+in-BadField-2, in-NoSlip+in-BadHex-2, in-NoSlip+in-NoWords-2, in-NoVerb-2}
 use Rattle.recon.proofs.run.Run.step.Goals as goal
 
