@@ -8,7 +8,28 @@ ghost use Rattle.fields.specs.Letters.{letter_among, letter_in};
 use codes::code::read::NotACode;
 
 // A field whose cases are told by a letter.
-pub trait Letter: Copy + 'static {
+pub trait Letter: Sized {
+    // The letters of the field.
+    ghost letters: { List ℕ };
+
+    // The letter of each case.
+    ghost told: { Self → ℕ };
+
+    // The case of a letter.
+    fn of_letter(byte: u8) -> Option<Self>
+        ensures { option_map told result ≡ letter_among letters byte };
+
+    // The letter of this case.
+    fn letter(&self) -> u8
+        ensures { result ≡ told self.now };
+
+    ghost listed: { (x : Self) → one_of letters (told x) ≡ true };
+
+    ghost apart: { (x y : Self) → told x ≡ told y → x ≡ y };
+}
+
+// A field that lists its cases, and so is told by a letter: the case of one is found among them.
+pub trait Cases: Copy + 'static {
     // The letters of the field.
     ghost letters: { List ℕ };
 
@@ -20,21 +41,32 @@ pub trait Letter: Copy + 'static {
         ensures { map told result.now ≡ letters };
 
     // The letter of this case. Each field casts its own enum: a type parameter has no cast to a number.
-    fn letter(&self) -> u8
+    fn case_letter(&self) -> u8
         ensures { result ≡ told self.now };
 
     ghost listed: { (x : Self) → one_of letters (told x) ≡ true };
 
     ghost apart: { (x y : Self) → told x ≡ told y → x ≡ y };
+}
 
-    // The case of a letter.
-    final fn of_letter(byte: u8) -> Option<Self>
-        ensures { option_map told result ≡ letter_among letters byte }
-    {
-        Self::cases()
+impl<C: Cases> Letter for C {
+    ghost letters = { C.Cases.letters };
+
+    ghost told = { C.Cases.told };
+
+    ghost listed = { C.Cases.listed };
+
+    ghost apart = { C.Cases.apart };
+
+    fn of_letter(byte: u8) -> Option<C> {
+        C::cases()
             .iter()
-            .find(|case| case.letter() == byte)
+            .find(|case| case.case_letter() == byte)
             .copied()
+    }
+
+    fn letter(&self) -> u8 {
+        self.case_letter()
     }
 }
 

@@ -52,9 +52,13 @@ escaped-append (x ∷ xs) b = ap (λ (t : List ℕ). escaped_byte x ++ t) (escap
 pub escaped_more : (xs : List ℕ) (i d : ℕ) → i < length xs → escaped (take (i + 1) xs) ≡ escaped (take i xs) ++ escaped_byte (get_or xs i d)
 escaped_more xs i d h = ap escaped (take_more xs i d h) ∙ escaped-append (take i xs) (get_or xs i d)
 
--- two digits in capitals, as they are written
-pub capitals_written : (o : Option (List ℕ)) (b : ℕ) → o ≡ Some (digits 16 true b) → b < 256 → option_map (padded_integral (format_spec 32 0 4 2 18446744073709551615) false []) o ≡ Some (hex_digit (b / 16) ∷ hex_digit (b % 16) ∷ [])
-capitals_written o b e h = ap (option_map (padded_integral (format_spec 32 0 4 2 18446744073709551615) false [])) e ∙ ap Some (hex_byte true b h)
+-- three bytes written one behind the other
+pub three_pushed : (b x y z e f g : List ℕ) (m n o : ℕ) → x ≡ b ++ e → e ≡ m ∷ [] → y ≡ x ++ f → f ≡ n ∷ [] → z ≡ y ++ g → g ≡ o ∷ [] → z ≡ b ++ (m ∷ n ∷ o ∷ [])
+three_pushed b x y z e f g m n o p₁ q₁ p₂ q₂ p₃ q₃ =
+    p₃ ∙ ap (λ (t : List ℕ). y ++ t) q₃
+    ∙ ap (λ (t : List ℕ). t ++ (o ∷ [])) (p₂ ∙ ap (λ (t : List ℕ). x ++ t) q₂)
+    ∙ ap (λ (t : List ℕ). (t ++ (n ∷ [])) ++ (o ∷ [])) (p₁ ∙ ap (λ (t : List ℕ). b ++ t) q₁)
+    ∙ simp append_assoc
 
 hex_printable : (d : ℕ) → d < 16 → is_in_range 33 126 (hex_digit d) ≡ true
 hex_printable d h = grind (arith, nat_tests)

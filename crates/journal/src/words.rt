@@ -4,7 +4,7 @@ ghost use Rattle.std.specs.Iterator.{YieldsFirstRef, item_count};
 ghost use Rattle.journal.specs.Errors.{IfBadEscape};
 ghost use Rattle.journal.specs.Words.{decoded_all, words_of};
 
-use crate::escapes::{WordError, decode};
+use crate::escapes::{DecodeError, WordError, decode, escape};
 use crate::lines::first_word;
 use std::alloc::Global;
 
@@ -37,7 +37,11 @@ pub fn read_words(alloc: Global, line: &[u8]) -> Result<Vec<Vec<u8>>, WordError>
 {
     let mut words = Vec::new(alloc);
     for word in Words(line) {
-        words.push(decode(alloc, word)?)?;
+        match decode(alloc, word) {
+            Ok(bytes) => words.push(bytes)?,
+            Err(DecodeError::BadEscape) => return Err(WordError::BadEscape(escape(alloc, word)?)),
+            Err(DecodeError::OutOfMemory(error)) => return Err(WordError::OutOfMemory(error)),
+        }
     }
     Ok(words)
 }

@@ -110,11 +110,12 @@ impl Run {
             if source.is_awaited() {
                 out.flush()?;
             }
-            line.clear();
             if !source.next_line(rt, &mut line)? {
                 break;
             }
-            let (text, _) = first_line(line.as_slice());
+            let (text, behind) = first_line(line.as_slice());
+            // one line at a time, so that none is lost behind another
+            prove!(behind.is_empty());
             if let Some(told) = self.step(rt.alloc(), shelf, text)? {
                 writeln!(out, "{told}")?;
             }

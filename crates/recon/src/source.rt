@@ -1,4 +1,7 @@
 // Where the lines of a journal come from.
+ghost use Rattle.std.specs.Prelude.{◌≡◌, [], IfOk, OnOk, length, nat_lt};
+ghost use Rattle.journal.specs.Lines.{after_line};
+
 use std::env::Args;
 use std::fs;
 use std::fs::File;
@@ -28,10 +31,14 @@ impl Source {
         })
     }
 
-    // Puts the next line, with its line feed, behind what is there; false where there is none.
-    pub fn next_line(&mut self, rt: &HostRuntime, line: &mut Vec<u8>) -> anyhow::Result<bool> {
+    // Puts the next line, with its line feed, in the place of what is there: one line and nothing behind it. False where
+    // there is none.
+    pub fn next_line(&mut self, rt: &HostRuntime, line: &mut Vec<u8>) -> anyhow::Result<bool>
+        ensures one { OnOk result (after_line line.new.items ≡ []) }
+        ensures told { IfOk result (λ more. more ≡ nat_lt 0 (length line.new.items)) }
+    {
         match self {
-            Source::Typed(reader) => Ok(reader.read_until(b'\n', line)? > 0),
+            Source::Typed(reader) => read_line(reader, line),
             Source::Filed(files) => files.next_line(rt, line),
         }
     }
@@ -55,6 +62,15 @@ impl Source {
 
 fn has_line(text: &[u8]) -> bool {
     text.contains(&b'\n')
+}
+
+// Puts a reader's next line in the place of what is there.
+fn read_line<R: BufRead>(reader: &mut R, line: &mut Vec<u8>) -> anyhow::Result<bool>
+    ensures one { OnOk result (after_line line.new.items ≡ []) }
+    ensures told { IfOk result (λ more. more ≡ nat_lt 0 (length line.new.items)) }
+{
+    line.clear();
+    Ok(reader.read_until(b'\n', line)? > 0)
 }
 
 // Files, one behind the other, since a book lives on from file to file.
@@ -84,7 +100,11 @@ impl Files {
 
     // The next line of the file that is read, or the first of the next one that has any. One that ends within a line ends
     // that line.
-    fn next_line(&mut self, rt: &HostRuntime, line: &mut Vec<u8>) -> anyhow::Result<bool> {
+    fn next_line(&mut self, rt: &HostRuntime, line: &mut Vec<u8>) -> anyhow::Result<bool>
+        ensures one { OnOk result (after_line line.new.items ≡ []) }
+        ensures told { IfOk result (λ more. more ≡ nat_lt 0 (length line.new.items)) }
+    {
+        line.clear();
         for _ in 0..u64::MAX {
             if self.read_on(rt, line)? {
                 return Ok(true);
@@ -98,13 +118,17 @@ impl Files {
     }
 
     // The next line of the file that is read; a file that has none, or cannot be read on, is left.
-    fn read_on(&mut self, rt: &HostRuntime, line: &mut Vec<u8>) -> anyhow::Result<bool> {
+    fn read_on(&mut self, rt: &HostRuntime, line: &mut Vec<u8>) -> anyhow::Result<bool>
+        ensures one { OnOk result (after_line line.new.items ≡ []) }
+        ensures told { IfOk result (λ more. more ≡ nat_lt 0 (length line.new.items)) }
+    {
+        line.clear();
         let Some(mut file) = self.open.take() else {
             return Ok(false);
         };
-        match file.reader.read_until(b'\n', line) {
-            Ok(0) => Ok(false),
-            Ok(_) => {
+        match read_line(&mut file.reader, line) {
+            Ok(false) => Ok(false),
+            Ok(true) => {
                 self.open = Some(file);
                 Ok(true)
             }

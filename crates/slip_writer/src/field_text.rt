@@ -29,7 +29,7 @@ pub fn copied(bytes: &[u8]) -> FieldText
     text
 }
 
-pub fn letter_text<L: Letter>(letter: L) -> FieldText
+pub fn letter_text<L: Letter + Copy>(letter: L) -> FieldText
     ensures { result.items ≡ L.Letter.told letter ∷ [] }
 {
     let mut text = FieldText::new();

@@ -2,7 +2,7 @@
 ghost use Rattle.std.specs.Prelude.{◌≡◌, ◌<◌, ◌≤◌, map, length, Decides, IfOk, MatchResult};
 ghost use Rattle.table.specs.Order.{Answers, Ascending, StandsAt, keys};
 
-use keys::key::Keyed;
+use keys::key::{Key, Keyed};
 
 // Where the row with this key stands, or else the place where it would have to stand.
 pub fn find<R: Keyed>(rows: &[R], key: &R::Key) -> Result<usize, usize>
@@ -10,14 +10,14 @@ pub fn find<R: Keyed>(rows: &[R], key: &R::Key) -> Result<usize, usize>
     ensures stands { IfOk result (StandsAt R.Key.cmp (map R.id rows.now) key.now) }
     ensures law { Ascending R.Key.cmp (map R.id rows.now) → Answers R.Key.cmp (map R.id rows.now) key.now result }
 {
-    rows.binary_search_by(|row| row.key().cmp(key))
+    rows.binary_search_by(|row| row.key().compare(key))
 }
 
 // Whether the keys of the rows ascend strictly.
 pub fn is_ascending<R: Keyed>(rows: &[R]) -> bool
     ensures { Decides result (Ascending R.Key.cmp (map R.id rows.now)) }
 {
-    rows.is_sorted_by(|row, next| row.key() < next.key())
+    rows.is_sorted_by(|row, next| row.key().compare(next.key()).is_lt())
 }
 
 // The same of the used rows alone.

@@ -3,8 +3,9 @@ use Rattle.std.specs.Prelude.{ℕ, List}
 use Rattle.codes.specs.Codes.{text_of, text_order}
 use Rattle.codes.specs.declared.code.Code.{Code}
 use Rattle.std.specs.declared.cmp.Ordering.{Ordering}
-use Rattle.std.specs.Ordering.{on, ordering_then}
+use Rattle.std.specs.Ordering.{nat_cmp, on, ordering_then}
 use Rattle.table.specs.Order.{keys}
+use Rattle.table_tests.specs.declared.sample.Number.{Number}
 use Rattle.table_tests.specs.declared.sample.Sample.{Sample}
 use Rattle.table_tests.specs.declared.sample.SampleKey.{SampleKey}
 
@@ -13,6 +14,10 @@ abbrev pub sample_order : SampleKey → SampleKey → Ordering
 sample_order x y =
     ordering_then (text_order (text_of x.trade) (text_of y.trade))
     (ordering_then (text_order (text_of x.reporting) (text_of y.reporting)) (text_order (text_of x.other) (text_of y.other)))
+
+-- numbers by their values
+abbrev pub number_order : Number → Number → Ordering
+number_order x y = nat_cmp x.value y.value
 
 -- parties and countries by their texts
 abbrev pub code_order : {A : _} {least most : _} {m : _} → Code A least most m → Code A least most m → Ordering

@@ -16,3 +16,15 @@ pub struct Sample {
     pub done: bool,
     pub mark: u32,
 }
+
+// A key that has an order and no equality: a table asks for no more.
+#[derive(Clone, Copy)]
+pub struct Number {
+    pub value: u32,
+}
+
+#[derive(Clone, Copy)]
+pub struct Numbered {
+    pub number: Number,
+    pub mark: u32,
+}

@@ -2,16 +2,18 @@
 ghost use Rattle.std.specs.Prelude.{◌≡◌, take, drop, map, min, Decides, IfNone, IfOk, IfSome, is_some};
 ghost use Rattle.table.specs.Changes.{Closes, Inserts, InsertsAt, Tells, used_after};
 ghost use Rattle.table.specs.Order.{Answers, Ascending, MissingAt, keys};
-ghost use Rattle.table_tests.specs.Samples.{code_order, sample_keys, sample_order};
+ghost use Rattle.std.specs.Cmp.{nat_cmp_total, on_total};
+ghost use Rattle.table_tests.specs.Samples.{code_order, number_order, sample_keys, sample_order};
 
-use crate::sample::{Sample, SampleKey};
+use crate::sample::{Number, Numbered, Sample, SampleKey};
 use codes::code::{Country, Lei};
-use keys::key::Keyed;
+use keys::key::{Key, Keyed};
+use std::cmp::Ordering;
 use std::marker::PhantomData;
 use table::closing::Freeable;
 use table::container::Table;
 use table::insertion::{NotEntered, insert, insert_at};
-use table::order::{is_ascending, used_ascend};
+use table::order::{find, is_ascending, used_ascend};
 
 impl Keyed for Sample {
     type Key = SampleKey;
@@ -29,6 +31,33 @@ impl Freeable for Sample {
     fn is_freed(&self) -> bool {
         self.done
     }
+}
+
+impl Key for Number {
+    ghost cmp = { number_order };
+
+    ghost total = { on_total (λ n. n.value) nat_cmp_total };
+
+    fn compare(&self, other: &Number) -> Ordering {
+        self.value.cmp(&other.value)
+    }
+}
+
+impl Keyed for Numbered {
+    type Key = Number;
+
+    ghost id = { λ row. row.number };
+
+    fn key(&self) -> &Number {
+        &self.number
+    }
+}
+
+// Where a key without an equality stands.
+pub fn find_number(rows: &[Numbered], number: &Number) -> Result<usize, usize>
+    ensures { Ascending number_order (map (λ x. x.number) rows.now) → Answers number_order (map (λ x. x.number) rows.now) number.now result }
+{
+    find(rows, number)
 }
 
 // Where a sample's key stands among the used rows.

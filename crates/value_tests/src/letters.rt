@@ -1,7 +1,7 @@
 // The letters of the one-letter fields.
 use fields::field::detail::{Compression, PriceNotation, ProductIdKind, Side, UnderlyingKind};
 use fields::field::report::{Action, Level, PartyKind};
-use fields::letter::{Letter, read_letter};
+use fields::letter::{Cases, Letter, read_letter};
 
 const PARTY_KINDS: &[(PartyKind, u8)] = &[(PartyKind::Lei, b'L'), (PartyKind::Client, b'C')];
 
@@ -42,7 +42,7 @@ const NOTATIONS: &[(PriceNotation, u8)] = &[
 ];
 
 // Whether a case has this letter and is read from it, and neither from two of them nor from the small letter.
-fn has_letter<L: Letter + PartialEq>(case: L, letter: u8) -> bool {
+fn has_letter<L: Cases + PartialEq>(case: L, letter: u8) -> bool {
     case.letter() == letter
         && L::of_letter(letter) == Some(case)
         && read_letter(&[letter]) == Ok(case)
@@ -51,7 +51,7 @@ fn has_letter<L: Letter + PartialEq>(case: L, letter: u8) -> bool {
 }
 
 // Whether these are all the cases of the field, with their letters. W is a letter of no field.
-fn has_letters<L: Letter + PartialEq>(cases: &[(L, u8)]) -> bool {
+fn has_letters<L: Cases + PartialEq>(cases: &[(L, u8)]) -> bool {
     L::cases().len() == cases.len()
         && cases
             .iter()

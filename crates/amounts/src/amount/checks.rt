@@ -1,18 +1,11 @@
 // Two amounts compared: equality and the two tolerance checks on amounts.
-ghost use Rattle.std.specs.Prelude.{◌≡◌, ◌*◌, nat_le};
-ghost use Rattle.amounts.specs.Amounts.{magnitude, worth};
+ghost use Rattle.std.specs.Prelude.{◌≡◌};
+ghost use Rattle.amounts.specs.Amounts.{worth};
 ghost use Rattle.amounts.specs.Checks.{cut, same, same_whole, within_one_percent};
 
 use super::Amount;
 
 impl Amount {
-    // Whether 99 times the magnitude is at most 100 times the other's.
-    fn magnitude_within(&self, other: &Amount) -> bool
-        ensures { result ≡ nat_le (magnitude self.now * 99) (magnitude other.now * 100) }
-    {
-        self.parts().times(99) <= other.parts().times(100)
-    }
-
     // The whole number that is left when the fraction is cut off, toward zero.
     #[tactic(auto, using(crate::proofs::Shortest::whole_units))]
     fn whole_number(&self) -> i128
@@ -34,9 +27,12 @@ impl Amount {
     pub fn within_one_percent(&self, other: &Amount) -> bool
         ensures { result ≡ within_one_percent (worth self.now) (worth other.now) }
     {
-        self.negative == other.negative
-            && self.magnitude_within(other)
-            && other.magnitude_within(self)
+        if self.negative != other.negative {
+            return false;
+        }
+        // taken apart once each: that is where the divisions are
+        let (parts, others) = (self.parts(), other.parts());
+        parts.within(others) && others.within(parts)
     }
 
     // Tolerance check 2: whether one whole number is left of both when their fractions are dropped.

@@ -1,5 +1,5 @@
 // The parts of an amount before and behind its dot.
-ghost use Rattle.std.specs.Prelude.{◌≡◌, ◌+◌, ◌*◌, ◌^◌, ◌<◌, ◌≤◌};
+ghost use Rattle.std.specs.Prelude.{◌≡◌, ◌+◌, ◌*◌, ◌^◌, ◌<◌, ◌≤◌, nat_le};
 ghost use Rattle.amounts.specs.Amounts.{magnitude, whole_of};
 ghost use Rattle.amounts.specs.Units.{units_per_one};
 
@@ -34,10 +34,20 @@ impl Parts {
     {
         let factor = u128::from(factor);
         let units = self.fraction * factor;
+        let more = units / ONE;
         Parts {
-            whole: self.whole * factor + units / ONE,
-            fraction: units % ONE,
+            whole: self.whole * factor + more,
+            // and no remainder, which would divide once more
+            fraction: units - more * ONE,
         }
+    }
+
+    // Whether 99 times as much is at most 100 times the other.
+    pub(super) fn within(self, other: Parts) -> bool
+        requires { (self.whole < 10 ^ 20) × (other.whole < 10 ^ 20) }
+        ensures { result ≡ nat_le ((self.whole * units_per_one + self.fraction) * 99) ((other.whole * units_per_one + other.fraction) * 100) }
+    {
+        self.times(99) <= other.times(100)
     }
 }
 
@@ -55,9 +65,10 @@ impl Amount {
         ensures value { result.whole * units_per_one + result.fraction ≡ magnitude self.now }
         ensures whole { result.whole < 10 ^ 20 }
     {
+        let unit = power_of_ten(self.places);
         Parts {
-            whole: self.whole_part(),
-            fraction: self.digits % power_of_ten(self.places) * power_of_ten(19 - self.places),
+            whole: self.digits / unit,
+            fraction: self.digits % unit * power_of_ten(19 - self.places),
         }
     }
 }

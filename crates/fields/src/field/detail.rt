@@ -2,7 +2,7 @@
 ghost use Rattle.fields.specs.Fields.{compression_letter, compression_letters, price_notation_letter, price_notation_letters, product_id_kind_letter, product_id_kind_letters, side_letter, side_letters, underlying_kind_letter, underlying_kind_letters};
 ghost use Rattle.std.proofs.Common.{rules};
 
-use crate::letter::Letter;
+use crate::letter::Cases;
 
 // The side of the reporting counterparty.
 #[derive(Clone, Copy, PartialEq, Eq)]
@@ -11,7 +11,7 @@ pub enum Side {
     Seller = b'S' as isize,
 }
 
-impl Letter for Side {
+impl Cases for Side {
     ghost letters = { side_letters };
 
     ghost told = { side_letter };
@@ -24,7 +24,7 @@ impl Letter for Side {
         &[Side::Buyer, Side::Seller]
     }
 
-    fn letter(&self) -> u8 {
+    fn case_letter(&self) -> u8 {
         *self as u8
     }
 }
@@ -38,7 +38,7 @@ pub enum ProductIdKind {
     Aii = b'A' as isize,
 }
 
-impl Letter for ProductIdKind {
+impl Cases for ProductIdKind {
     ghost letters = { product_id_kind_letters };
 
     ghost told = { product_id_kind_letter };
@@ -51,7 +51,7 @@ impl Letter for ProductIdKind {
         &[ProductIdKind::Isin, ProductIdKind::Aii]
     }
 
-    fn letter(&self) -> u8 {
+    fn case_letter(&self) -> u8 {
         *self as u8
     }
 }
@@ -69,7 +69,7 @@ pub enum UnderlyingKind {
     Index = b'X' as isize,
 }
 
-impl Letter for UnderlyingKind {
+impl Cases for UnderlyingKind {
     ghost letters = { underlying_kind_letters };
 
     ghost told = { underlying_kind_letter };
@@ -88,7 +88,7 @@ impl Letter for UnderlyingKind {
         ]
     }
 
-    fn letter(&self) -> u8 {
+    fn case_letter(&self) -> u8 {
         *self as u8
     }
 }
@@ -100,7 +100,7 @@ pub enum Compression {
     Uncompressed = b'N' as isize,
 }
 
-impl Letter for Compression {
+impl Cases for Compression {
     ghost letters = { compression_letters };
 
     ghost told = { compression_letter };
@@ -113,7 +113,7 @@ impl Letter for Compression {
         &[Compression::Compressed, Compression::Uncompressed]
     }
 
-    fn letter(&self) -> u8 {
+    fn case_letter(&self) -> u8 {
         *self as u8
     }
 }
@@ -126,7 +126,7 @@ pub enum PriceNotation {
     Yield = b'Y' as isize,
 }
 
-impl Letter for PriceNotation {
+impl Cases for PriceNotation {
     ghost letters = { price_notation_letters };
 
     ghost told = { price_notation_letter };
@@ -143,7 +143,7 @@ impl Letter for PriceNotation {
         ]
     }
 
-    fn letter(&self) -> u8 {
+    fn case_letter(&self) -> u8 {
         *self as u8
     }
 }

@@ -2,7 +2,7 @@
 ghost use Rattle.fields.specs.Fields.{action_letter, action_letters, level_letter, level_letters, party_kind_letter, party_kind_letters};
 ghost use Rattle.std.proofs.Common.{rules};
 
-use crate::letter::Letter;
+use crate::letter::Cases;
 
 // How a report names the other counterparty.
 #[derive(Clone, Copy, PartialEq, Eq)]
@@ -13,7 +13,7 @@ pub enum PartyKind {
     Client = b'C' as isize,
 }
 
-impl Letter for PartyKind {
+impl Cases for PartyKind {
     ghost letters = { party_kind_letters };
 
     ghost told = { party_kind_letter };
@@ -26,7 +26,7 @@ impl Letter for PartyKind {
         &[PartyKind::Lei, PartyKind::Client]
     }
 
-    fn letter(&self) -> u8 {
+    fn case_letter(&self) -> u8 {
         *self as u8
     }
 }
@@ -52,7 +52,7 @@ pub enum Action {
     Error = b'E' as isize,
 }
 
-impl Letter for Action {
+impl Cases for Action {
     ghost letters = { action_letters };
 
     ghost told = { action_letter };
@@ -74,7 +74,7 @@ impl Letter for Action {
         ]
     }
 
-    fn letter(&self) -> u8 {
+    fn case_letter(&self) -> u8 {
         *self as u8
     }
 }
@@ -86,7 +86,7 @@ pub enum Level {
     Position = b'P' as isize,
 }
 
-impl Letter for Level {
+impl Cases for Level {
     ghost letters = { level_letters };
 
     ghost told = { level_letter };
@@ -99,7 +99,7 @@ impl Letter for Level {
         &[Level::Trade, Level::Position]
     }
 
-    fn letter(&self) -> u8 {
+    fn case_letter(&self) -> u8 {
         *self as u8
     }
 }

@@ -20,5 +20,5 @@ returns g c =
     let blanked = filled c.loop-i.rows c.fill_with.new.self n end c.args.blank (omega (arith, done.behind)) (omega arith) c.fill_with.ensures.len blanks in
     record {
       rows = closes freed c.args.blank c.args.rows.now c.loop-i.rows _ c.args.used end n c.min-end.ensures done blanked;
-      ascends = closed_ascends freed c.args.blank c.args.rows.now c.loop-i.rows _ c.args.used end n c.min-end.ensures done blanked g.R.Key.Ord.cmp g.R.Keyed.id;
+      ascends = closed_ascends freed c.args.blank c.args.rows.now c.loop-i.rows _ c.args.used end n c.min-end.ensures done blanked g.R.Key.Key.cmp g.R.Keyed.id;
     }

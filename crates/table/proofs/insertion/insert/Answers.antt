@@ -7,7 +7,7 @@ use Rattle.table.proofs.insertion.insert.Goals as goal
 
 pub returns-in-Ok : goal.returns-in-Ok
 returns-in-Ok g c =
-    let cmp = g.R.Key.Ord.cmp in
+    let cmp = g.R.Key.Key.cmp in
     let id = g.R.Keyed.id in
     let used = c.args.used in
     let xs = c.args.rows.now in
@@ -19,7 +19,7 @@ returns-in-Ok g c =
 
 pub returns-in_ok-insert_at-in-Err : goal.returns-in_ok-insert_at-in-Err
 returns-in_ok-insert_at-in-Err g c =
-    let cmp = g.R.Key.Ord.cmp in
+    let cmp = g.R.Key.Key.cmp in
     let id = g.R.Keyed.id in
     let used = c.args.used in
     let xs = c.args.rows.now in
@@ -38,7 +38,7 @@ returns-in_ok-insert_at-in-Err g c =
 
 pub returns-in_err-insert_at-in-Err : goal.returns-in_err-insert_at-in-Err
 returns-in_err-insert_at-in-Err g c =
-    let cmp = g.R.Key.Ord.cmp in
+    let cmp = g.R.Key.Key.cmp in
     let id = g.R.Keyed.id in
     let used = c.args.used in
     let xs = c.args.rows.now in

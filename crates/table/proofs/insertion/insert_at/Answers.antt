@@ -6,7 +6,7 @@ use Rattle.table.proofs.insertion.insert_at.Goals as goal
 
 pub returns : goal.returns
 returns g c =
-    let cmp = g.R.Key.Ord.cmp in
+    let cmp = g.R.Key.Key.cmp in
     let id = g.R.Keyed.id in
     let xs = c.args.rows.now in
     let used = c.args.used in
@@ -15,5 +15,5 @@ returns g c =
     let put = put_in xs used i c.args.row le (omega arith) c.copy_within.new.self c.copy_within.ensures.after in
     record {
       rows = subst (PutIn used xs c.args.row _) c.min-at.ensures put;
-      ascends = λ up missing. ascending_entered g.met.R.Key.Ord.total id xs _ used i c.args.row put up (subst (MissingAt cmp (keys id used xs) (id c.args.row)) (sym c.min-at.ensures) missing);
+      ascends = λ up missing. ascending_entered g.met.R.Key.Key.total id xs _ used i c.args.row put up (subst (MissingAt cmp (keys id used xs) (id c.args.row)) (sym c.min-at.ensures) missing);
     }

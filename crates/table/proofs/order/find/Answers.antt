@@ -5,9 +5,9 @@ use Rattle.table.proofs.order.find.Goals as goal
 
 pub returns : goal.returns
 returns g c =
-    let cmp = g.R.Key.Ord.cmp in
+    let cmp = g.R.Key.Key.cmp in
     let id = g.R.Keyed.id in
-    let total = g.met.R.Key.Ord.total in
+    let total = g.met.R.Key.Key.total in
     let xs = c.args.rows.now in
     let k = c.args.key.now in
     let r = c.binary_search_by.result in

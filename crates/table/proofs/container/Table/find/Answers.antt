@@ -4,7 +4,7 @@ use Rattle.table.proofs.container.Table.find.Goals as goal
 
 pub returns : goal.returns
 returns g c =
-    let cmp = g.R.Key.Ord.cmp in
+    let cmp = g.R.Key.Key.cmp in
     let id = g.R.Keyed.id in
     let self = c.args.self.now in
     let f = c.find.ensures in
