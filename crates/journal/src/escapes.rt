@@ -87,7 +87,12 @@ pub fn hex_value(digit: u8) -> Option<u8>
     ensures value { result ≡ hex_value digit }
     ensures bound { IfSome result (λ v. v < 16) }
 {
-    char::from(digit).to_digit(16).map(|value| value as u8)
+    match digit {
+        b'0'..=b'9' => Some(digit - b'0'),
+        // `to_digit` takes half as long again: it tries the letters from G on too
+        _ if digit.is_ascii_hexdigit() => Some(digit.to_ascii_lowercase() - b'a' + 10),
+        _ => None,
+    }
 }
 
 // The byte that the front of a word stands for, and what follows it; nothing where an escape is bad.

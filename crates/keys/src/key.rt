@@ -5,8 +5,8 @@ ghost use Rattle.std.specs.declared.cmp.Ordering.{Ordering};
 
 use std::cmp::Ordering;
 
-// A key: any two are less, equal or greater, by a total order. It need not have an equality: a type that has the library's
-// order is a key by that.
+// A key: any two are less, equal or greater, by a total order. It need not have an equality, and a type that has the
+// library's order may be a key by another.
 pub trait Key {
     // What `compare` answers.
     ghost cmp: { Self → Self → Ordering };
@@ -15,16 +15,6 @@ pub trait Key {
         ensures { result ≡ cmp self.now other.now };
 
     ghost total: { IsTotalOrder cmp };
-}
-
-impl<K: Ord> Key for K {
-    ghost cmp = { K.Ord.cmp };
-
-    ghost total = { K.Ord.total };
-
-    fn compare(&self, other: &K) -> Ordering {
-        self.cmp(other)
-    }
 }
 
 // A row that is found by a key of its own, in the order of such keys.

@@ -6,6 +6,7 @@ use Rattle.std.specs.declared.cmp.Ordering.{Ordering}
 use Rattle.std.specs.Ordering.{nat_cmp, on, ordering_then}
 use Rattle.table.specs.Order.{keys}
 use Rattle.table_tests.specs.declared.sample.Number.{Number}
+use Rattle.table_tests.specs.declared.sample.Priority.{Priority}
 use Rattle.table_tests.specs.declared.sample.Sample.{Sample}
 use Rattle.table_tests.specs.declared.sample.SampleKey.{SampleKey}
 
@@ -18,6 +19,10 @@ sample_order x y =
 -- numbers by their values
 abbrev pub number_order : Number → Number → Ordering
 number_order x y = nat_cmp x.value y.value
+
+-- the highest level first
+abbrev pub highest_first : Priority → Priority → Ordering
+highest_first x y = nat_cmp y.level x.level
 
 -- parties and countries by their texts
 abbrev pub code_order : {A : _} {least most : _} {m : _} → Code A least most m → Code A least most m → Ordering

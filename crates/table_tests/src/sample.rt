@@ -28,3 +28,15 @@ pub struct Numbered {
     pub number: Number,
     pub mark: u32,
 }
+
+// A key with the library's order, and with another by which its rows stand: the highest first.
+#[derive(Clone, Copy, PartialEq, Eq, PartialOrd, Ord)]
+pub struct Priority {
+    pub level: u32,
+}
+
+#[derive(Clone, Copy)]
+pub struct Ticket {
+    pub priority: Priority,
+    pub mark: u32,
+}

@@ -2,10 +2,12 @@
 ghost use Rattle.std.specs.Prelude.{◌≡◌, take, drop, map, min, Decides, IfNone, IfOk, IfSome, is_some};
 ghost use Rattle.table.specs.Changes.{Closes, Inserts, InsertsAt, Tells, used_after};
 ghost use Rattle.table.specs.Order.{Answers, Ascending, MissingAt, keys};
-ghost use Rattle.std.specs.Cmp.{nat_cmp_total, on_total};
-ghost use Rattle.table_tests.specs.Samples.{code_order, number_order, sample_keys, sample_order};
+ghost use Rattle.std.proofs.Common.{rules};
+ghost use Rattle.std.specs.Cmp.{back_total, nat_cmp_total, on_total};
+ghost use Rattle.std.specs.Cmp.Rules.{comparing};
+ghost use Rattle.table_tests.specs.Samples.{code_order, highest_first, number_order, sample_keys, sample_order};
 
-use crate::sample::{Number, Numbered, Sample, SampleKey};
+use crate::sample::{Number, Numbered, Priority, Sample, SampleKey, Ticket};
 use codes::code::{Country, Lei};
 use keys::key::{Key, Keyed};
 use std::cmp::Ordering;
@@ -14,6 +16,16 @@ use table::closing::Freeable;
 use table::container::Table;
 use table::insertion::{NotEntered, insert, insert_at};
 use table::order::{find, is_ascending, used_ascend};
+
+impl Key for SampleKey {
+    ghost cmp = { ⟦<SampleKey as Ord>⟧.cmp };
+
+    ghost total = { Prim.search (comparing, rules) };
+
+    fn compare(&self, other: &SampleKey) -> Ordering {
+        Ord::cmp(self, other)
+    }
+}
 
 impl Keyed for Sample {
     type Key = SampleKey;
@@ -53,11 +65,38 @@ impl Keyed for Numbered {
     }
 }
 
+impl Key for Priority {
+    ghost cmp = { highest_first };
+
+    ghost total = { back_total (on_total (λ p. p.level) nat_cmp_total) };
+
+    fn compare(&self, other: &Priority) -> Ordering {
+        Ord::cmp(other, self)
+    }
+}
+
+impl Keyed for Ticket {
+    type Key = Priority;
+
+    ghost id = { λ ticket. ticket.priority };
+
+    fn key(&self) -> &Priority {
+        &self.priority
+    }
+}
+
 // Where a key without an equality stands.
 pub fn find_number(rows: &[Numbered], number: &Number) -> Result<usize, usize>
     ensures { Ascending number_order (map (λ x. x.number) rows.now) → Answers number_order (map (λ x. x.number) rows.now) number.now result }
 {
     find(rows, number)
+}
+
+// Where a key stands among rows that are not in the library's order of it.
+pub fn find_priority(tickets: &[Ticket], priority: &Priority) -> Result<usize, usize>
+    ensures { Ascending highest_first (map (λ x. x.priority) tickets.now) → Answers highest_first (map (λ x. x.priority) tickets.now) priority.now result }
+{
+    find(tickets, priority)
 }
 
 // Where a sample's key stands among the used rows.

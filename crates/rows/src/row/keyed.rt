@@ -1,10 +1,23 @@
 // Rows in an ordered table.
 ghost use Rattle.rows.specs.Closing.{is_freed};
+ghost use Rattle.std.proofs.Common.{rules};
+ghost use Rattle.std.specs.Cmp.Rules.{comparing};
 
 use super::{Fate, Row};
 use crate::key::TradeKey;
-use keys::key::Keyed;
+use keys::key::{Key, Keyed};
+use std::cmp::Ordering;
 use table::closing::Freeable;
+
+impl Key for TradeKey {
+    ghost cmp = { ⟦<TradeKey as Ord>⟧.cmp };
+
+    ghost total = { Prim.search (comparing, rules) };
+
+    fn compare(&self, other: &TradeKey) -> Ordering {
+        Ord::cmp(self, other)
+    }
+}
 
 impl Keyed for Row {
     type Key = TradeKey;
